@@ -75,7 +75,8 @@ facts code e =
       maps = o.1;
       begun = leb-true 1 (length code.instructions) r.0;
       instructions = leb-true (length code.instructions) 65535 r.1;
-      places = filled_within (length code.instructions) (map (λ p. p.length) code.procedures) (map (λ f. f.length) code.declared.filters) w.1;
+      places = filled_within (length code.instructions) (map (λ p. p.length) code.procedures)
+          (map (λ f. f.length) code.declared.filters) w.1;
       legal = p.1;
       lists = ls.1;
       shape = h.1;

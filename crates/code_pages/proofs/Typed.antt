@@ -7,7 +7,8 @@ use Rattle.code_pages.specs.Pages.{page_letters, page_letter}
 use Rattle.code_pages.specs.declared.pages.CodePage.{CodePage}
 
 -- the byte of the next letter comes behind those that are there
-pub typed_more : (page : CodePage) (bytes new letters rest all : List ℕ) (letter byte : ℕ) → letters ≡ letter ∷ rest → page_letter page byte ≡ letter → new ≡ bytes ++ byte ∷ []
+pub typed_more : (page : CodePage) (bytes new letters rest all : List ℕ) (letter byte : ℕ) → letters ≡ letter ∷ rest
+    → page_letter page byte ≡ letter → new ≡ bytes ++ byte ∷ []
     → page_letters page bytes ++ letters ≡ all → page_letters page new ++ rest ≡ all
 typed_more page bytes new letters rest all letter byte next is put held =
     ap (λ b. page_letters page b ++ rest) put

@@ -1,3 +1,4 @@
 pub mod BlockLists
 pub mod Keeping
 pub mod Covering
+pub mod Incoming

@@ -50,7 +50,8 @@ put_held (Some x) st = put_some x st
 abbrev pub value_puts : Code → Viewer → ValueInstr → List Value → List Value
 value_puts code v (value_instr.Constant n) st = put_some (slice_get code.declared.constants n) st
 value_puts code v (value_instr.Load k s) st = put_held (slice_get v.slots s) st
-value_puts code v (value_instr.Function f) st = applied f v.settings (by_kind (arguments_on f st)) ∷ drop (length (takes_of f)) st
+value_puts code v (value_instr.Function f) st =
+    applied f v.settings (by_kind (arguments_on f st)) ∷ drop (length (takes_of f)) st
 value_puts code v value_instr.Today st = value.Date v.today ∷ st
 value_puts code v _ st = st
 
@@ -82,29 +83,43 @@ record Stands (v : Viewer) (table : ℕ) (s : State) (st : List Value) : Type 0 
   height : length s.stack ≡ length st
 
 -- the step does what it would without a bound, and what stands afterwards
-record Stepped (code : Code) (v : Viewer) (r : TriedRow) (table : ℕ) (s : State) (i : Instr) (st : List Value) : Type 0 where
+record Stepped (code : Code) (v : Viewer) (r : TriedRow) (table : ℕ) (s : State) (i : Instr)
+    (st : List Value) : Type 0 where
   same : row_run code v r i st ≡ row_puts code v r i st
   fits : slot_fits v.slots i
   after : Stands v table (left_by code i s) (row_puts code v r i st)
 
-pushed_stands : (v : Viewer) (table : ℕ) (s : State) (st : List Value) (k : Kind) (c : Value) → Stands v table s st → Stands v table (record { desk = s.desk; slots = s.slots; stack = k ∷ s.stack }) (c ∷ st)
+pushed_stands : (v : Viewer) (table : ℕ) (s : State) (st : List Value) (k : Kind) (c : Value) → Stands v table s st
+    → Stands v table (record { desk = s.desk; slots = s.slots; stack = k ∷ s.stack }) (c ∷ st)
 pushed_stands v table s st k c h = record { slots = h.slots; desk = h.desk; height = ap suc h.height }
 
 -- there is room for one more
-has_room : (code : Code) (s : State) (v : Viewer) (table taken : ℕ) (st : List Value) → code.declared.stack_bound ≤ 64 → Stands v table s st → nat_lt code.declared.stack_bound (length s.stack - taken + 1) ≡ false → length (drop taken st) < 64
-has_room code s v table taken st few h e = omega (arith, few, ltb-false code.declared.stack_bound (length s.stack - taken + 1) e, h.height, length-drop taken st)
+has_room : (code : Code) (s : State) (v : Viewer) (table taken : ℕ) (st : List Value) → code.declared.stack_bound ≤ 64
+    → Stands v table s st → nat_lt code.declared.stack_bound (length s.stack - taken + 1) ≡ false
+    → length (drop taken st) < 64
+has_room code s v table taken st few h e =
+    omega (
+      arith,
+      few,
+      ltb-false code.declared.stack_bound (length s.stack - taken + 1) e,
+      h.height,
+      length-drop taken st,
+    )
 
 field_is_there : {A : Type 0} (xs : List A) (n : ℕ) → nat_le (length xs) n ≡ false → (x : A) × (slice_get xs n ≡ Some x)
 field_is_there xs n e = is_there xs n (omega (arith, leb-false (length xs) n e))
 
-constant_steps : (code : Code) (v : Viewer) (r : TriedRow) (table : ℕ) (s : State) (st : List Value) (x : Option Value) → length st < 64 → Stands v table s st
+constant_steps : (code : Code) (v : Viewer) (r : TriedRow) (table : ℕ) (s : State) (st : List Value) (x : Option Value)
+    → length st < 64 → Stands v table s st
     → (with_constant x st ≡ put_some x st) × Stands v table
     (record { desk = s.desk; slots = s.slots; stack = known (Some (kind_held x)) ++ s.stack }) (put_some x st)
 constant_steps code v r table s st None lt h = (refl, h)
 constant_steps code v r table s st (Some c) lt h = (put_there c st lt, pushed_stands v table s st _ c h)
 
-load_steps : (v : Viewer) (table : ℕ) (s : State) (st : List Value) (k : Kind) (x : Option (Option Value)) → HoldsKind k x → length st < 64 → Stands v table s st
-    → (with_held x st ≡ put_held x st) × Stands v table (record { desk = s.desk; slots = s.slots; stack = k ∷ s.stack }) (put_held x st)
+load_steps : (v : Viewer) (table : ℕ) (s : State) (st : List Value) (k : Kind) (x : Option (Option Value))
+    → HoldsKind k x → length st < 64 → Stands v table s st
+    → (with_held x st ≡ put_held x st) × Stands v table (record { desk = s.desk; slots = s.slots; stack = k ∷ s.stack })
+    (put_held x st)
 load_steps v table s st k None held lt h = absurd held
 load_steps v table s st k (Some None) held lt h = absurd held
 load_steps v table s st k (Some (Some c)) held lt h = (put_there c st lt, pushed_stands v table s st k c h)
@@ -113,11 +128,14 @@ value_steps : (code : Code) → Same → code.declared.stack_bound ≤ 64 → (v
     (s : State) (i : ValueInstr) (st : List Value) → length v.slots ≡ code.declared.slots → Stands v table s st
     → IsSoundThere code s (Values i) → Stepped code v r table s (Values i) st
 value_steps code same few v r table s (value_instr.Constant n) st l h e =
-    let c = constant_steps code v r table s st (slice_get code.declared.constants n) (has_room code s v table 0 st few h e.within) h in
+    let c = constant_steps code v r table s st (slice_get code.declared.constants n)
+    (has_room code s v table 0 st few h e.within) h in
     record { same = c.0; fits = tt; after = c.1 }
 value_steps code same few v r table s (value_instr.Load k n) st l h e =
     let slots = h.slots in
-    let holds = slot_holds same k v.slots n (omega (arith, l, leb-false code.declared.slots n e.declared)) (subst (λ x. has_other k (slice_get x n) ≡ false) slots e.other) (subst (λ x. is_free (slice_get x n) ≡ false) slots e.set) in
+    let holds = slot_holds same k v.slots n (omega (arith, l, leb-false code.declared.slots n e.declared))
+    (subst (λ x. has_other k (slice_get x n) ≡ false) slots e.other)
+    (subst (λ x. is_free (slice_get x n) ≡ false) slots e.set) in
     let c = load_steps v table s st k (slice_get v.slots n) holds (has_room code s v table 0 st few h e.within) h in
     record { same = c.0; fits = holds; after = c.1 }
 value_steps code same few v r table s (value_instr.Function f) st l h e =
@@ -125,7 +143,11 @@ value_steps code same few v r table s (value_instr.Function f) st l h e =
     let c = applied f v.settings (by_kind (arguments_on f st)) in record {
       same = put_there c (drop n st) (has_room code s v table n st few h e.within);
       fits = tt;
-      after = record { slots = h.slots; desk = h.desk; height = ap suc (length-drop n s.stack ∙ ap (λ (m : ℕ). m - n) h.height ∙ sym (length-drop n st)) };
+      after = record {
+        slots = h.slots;
+        desk = h.desk;
+        height = ap suc (length-drop n s.stack ∙ ap (λ (m : ℕ). m - n) h.height ∙ sym (length-drop n st));
+      };
     }
 value_steps code same few v r table s value_instr.Today st l h e =
     record {
@@ -142,12 +164,19 @@ record_steps : (code : Code) → code.declared.stack_bound ≤ 64 → (v : Viewe
     (i : RecordInstr) (st : List Value) → Stands v table s st → IsSoundThere code s (Records i)
     → Stepped code v r table s (Records i) st
 record_steps code few v r table s (record_instr.RowField f) st h e =
-    let there = field_is_there (fields_at code.declared (Some (just_opened table 0))) f (subst (λ d. undeclared code d (Records (record_instr.RowField f)) ≡ false) h.desk e.declared) in
-    let kind : gives code.declared s.desk (Records (record_instr.RowField f)) ≡ Some (Some (kind_for there.0.letter)) = ap (λ d. gives code.declared d (Records (record_instr.RowField f))) h.desk ∙ ap (λ x. Some (kind_of_field x)) there.1 in
+    let there = field_is_there (fields_at code.declared (Some (just_opened table 0))) f
+    (subst (λ d. undeclared code d (Records (record_instr.RowField f)) ≡ false) h.desk e.declared) in
+    let kind : gives code.declared s.desk (Records (record_instr.RowField f)) ≡ Some (Some (kind_for there.0.letter)) =
+    ap (λ d. gives code.declared d (Records (record_instr.RowField f))) h.desk
+    ∙ ap (λ x. Some (kind_of_field x)) there.1 in
     record {
       same = put_there (row_field f r) st (has_room code s v table 0 st few h e.within);
       fits = tt;
-      after = record { slots = h.slots; desk = h.desk; height = ap (λ x. length (known x ++ s.stack)) kind ∙ ap suc h.height };
+      after = record {
+        slots = h.slots;
+        desk = h.desk;
+        height = ap (λ x. length (known x ++ s.stack)) kind ∙ ap suc h.height;
+      };
     }
 record_steps code few v r table s (record_instr.Ask q) st h e =
     record {
@@ -186,7 +215,9 @@ pub record Walked (code : Code) (v : Viewer) (r : TriedRow) (block : List Instr)
   pub same : block_run code v r block st ≡ through (row_puts code v r) block st
   pub fits : AllFit (slot_fits v.slots) block
 
-walked_from : (code : Code) → Same → code.declared.stack_bound ≤ 64 → (v : Viewer) (r : TriedRow) (table : ℕ) → length v.slots ≡ code.declared.slots → (s : State) (block : List Instr) (st : List Value) → Stands v table s st → block_sound code s block ≡ true → Walked code v r block st
+walked_from : (code : Code) → Same → code.declared.stack_bound ≤ 64 → (v : Viewer) (r : TriedRow) (table : ℕ)
+    → length v.slots ≡ code.declared.slots → (s : State) (block : List Instr) (st : List Value) → Stands v table s st
+    → block_sound code s block ≡ true → Walked code v r block st
 walked_from code same few v r table l s [] st h e = record { same = refl; fits = tt }
 walked_from code same few v r table l s (i ∷ block) st h e =
     let p = and_parts (not (block_fails code s i)) (block_sound code (left_by code i s) block) e in
@@ -195,12 +226,18 @@ walked_from code same few v r table l s (i ∷ block) st h e =
     let rest = walked_from code same few v r table l (left_by code i s) block (row_puts code v r i st) w.after p.1 in
     record { same = ap (block_run code v r block) w.same ∙ rest.same; fits = (w.fits, rest.fits) }
 
-pub walked : (code : Code) → Same → code.declared.stack_bound ≤ 64 → (v : Viewer) (r : TriedRow) (table : ℕ) → length v.slots ≡ code.declared.slots → (block : List Instr) → block_sound code (block_start table (map kind_held v.slots)) block ≡ true → Walked code v r block []
-walked code same few v r table l block e = walked_from code same few v r table l (block_start table (map kind_held v.slots)) block [] (record { slots = refl; desk = refl; height = refl }) e
+pub walked : (code : Code) → Same → code.declared.stack_bound ≤ 64 → (v : Viewer) (r : TriedRow) (table : ℕ)
+    → length v.slots ≡ code.declared.slots → (block : List Instr)
+    → block_sound code (block_start table (map kind_held v.slots)) block ≡ true → Walked code v r block []
+walked code same few v r table l block e =
+    walked_from code same few v r table l (block_start table (map kind_held v.slots)) block []
+    (record { slots = refl; desk = refl; height = refl }) e
 
 -- what fits the block fits its pieces
-pub pieces_fit : (fit : Instr → Type 0) (constants : List Value) (ps : List Piece) (block : List Instr) → AllZip (IsPiece constants) ps block → AllFit fit block → Fit fit ps
+pub pieces_fit : (fit : Instr → Type 0) (constants : List Value) (ps : List Piece) (block : List Instr)
+    → AllZip (IsPiece constants) ps block → AllFit fit block → Fit fit ps
 pieces_fit fit constants [] block are fits = tt
 pieces_fit fit constants (p ∷ ps) [] are fits = absurd are
 pieces_fit fit constants (Constant c ∷ ps) (i ∷ block) are fits = pieces_fit fit constants ps block are.1 fits.1
-pieces_fit fit constants (Does j ∷ ps) (i ∷ block) are fits = (subst fit are.0 fits.0, pieces_fit fit constants ps block are.1 fits.1)
+pieces_fit fit constants (Does j ∷ ps) (i ∷ block) are fits =
+    (subst fit are.0 fits.0, pieces_fit fit constants ps block are.1 fits.1)

@@ -67,11 +67,13 @@ only_functions_fill function.Deleted n e = refl
 only_functions_fill function.Date n e = refl
 
 -- nothing is left out where a question is asked, the day is, or a choice is made
-pub alone : (f : Function) (c : Called) (n : ℕ) (st : List Value) → meaning f ≡ c → is_function c ≡ false → onto (defaults f n) st ≡ st
+pub alone : (f : Function) (c : Called) (n : ℕ) (st : List Value) → meaning f ≡ c → is_function c ≡ false
+    → onto (defaults f n) st ≡ st
 alone f c n st is e = ap (λ (ws : List Value). onto ws st) (only_functions_fill f n (ap is_function is ∙ e))
 
 -- arguments and those that are left out have the kinds that the function takes
-pub all_kinds : (f : Function) (g : Fun) (ks : List Kind) (vs : List Value) (k : Kind) → map kind_of vs ≡ ks → function_kind f g ks ≡ Some k → map kind_of (vs ++ defaults f (length vs)) ≡ takes_of g
+pub all_kinds : (f : Function) (g : Fun) (ks : List Kind) (vs : List Value) (k : Kind) → map kind_of vs ≡ ks
+    → function_kind f g ks ≡ Some k → map kind_of (vs ++ defaults f (length vs)) ≡ takes_of g
 all_kinds f g ks vs k same e =
     map-append kind_of vs (defaults f (length vs))
     ∙ ap (λ (n : ℕ). map kind_of vs ++ map kind_of (defaults f n)) (sym (length-map vs kind_of)) ∙ ap (completed f) same

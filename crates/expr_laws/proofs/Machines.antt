@@ -38,17 +38,25 @@ pub record Puts (run : Run) (test : Instr → List Value → Type 0) (r : Readin
   pub put : (st : List Value) → run r.instr st ≡ v ∷ st
   pub passes : (st : List Value) → test r.instr st
 
--- a machine that sees this where an expression of this scope runs, with these constants; of what it reads more may be asked;
+-- a machine that sees this where an expression of this scope runs, with these constants; of what it reads more may be
+-- asked;
 -- and when each instruction passes its tests on a stack
-pub record Machine (s : Scoped) (v : Sight) (constants : List Value) (fit : Instr → Type 0) (run : Run) (test : Instr → List Value → Type 0) : Type 0 where
-  pub constant : (n : ℕ) (c : Value) (st : List Value) → slice_get constants n ≡ Some c → run (Values (value_instr.Constant n)) st ≡ c ∷ st
-  pub function : (f : Fun) (st : List Value) → run (Values (value_instr.Function f)) st ≡ applied f v.settings (by_kind (arguments_on f st)) ∷ drop (length (takes_of f)) st
+pub record Machine (s : Scoped) (v : Sight) (constants : List Value) (fit : Instr → Type 0) (run : Run)
+    (test : Instr → List Value → Type 0) : Type 0 where
+  pub constant : (n : ℕ) (c : Value) (st : List Value) → slice_get constants n ≡ Some c
+      → run (Values (value_instr.Constant n)) st ≡ c ∷ st
+  pub function : (f : Fun) (st : List Value) → run (Values (value_instr.Function f)) st
+      ≡ applied f v.settings (by_kind (arguments_on f st)) ∷ drop (length (takes_of f)) st
   pub today : (st : List Value) → run (Values value_instr.Today) st ≡ value.Date v.today ∷ st
   pub named : (n : List ℕ) (r : Reading) → read_name s n ≡ Some r → fit r.instr → Puts run test r (v.named n)
-  pub qualified : (a n : List ℕ) (r : Reading) → read_qualified s a n ≡ Some r → fit r.instr → Puts run test r (v.qualified a n)
-  pub asked : (q : Question) (k : Kind) → question_kind s q ≡ Some k → fit (Records (record_instr.Ask q)) → Puts run test (record { instr = Records (record_instr.Ask q); kind = k }) (v.asked q)
-  pub constant_passes : (n : ℕ) (c : Value) (st : List Value) → slice_get constants n ≡ Some c → test (Values (value_instr.Constant n)) st
-  pub function_passes : (f : Fun) (vs st : List Value) → map kind_of vs ≡ takes_of f → test (Values (value_instr.Function f)) (onto vs st)
+  pub qualified : (a n : List ℕ) (r : Reading) → read_qualified s a n ≡ Some r → fit r.instr
+      → Puts run test r (v.qualified a n)
+  pub asked : (q : Question) (k : Kind) → question_kind s q ≡ Some k → fit (Records (record_instr.Ask q))
+      → Puts run test (record { instr = Records (record_instr.Ask q); kind = k }) (v.asked q)
+  pub constant_passes : (n : ℕ) (c : Value) (st : List Value) → slice_get constants n ≡ Some c
+      → test (Values (value_instr.Constant n)) st
+  pub function_passes : (f : Fun) (vs st : List Value) → map kind_of vs ≡ takes_of f
+      → test (Values (value_instr.Function f)) (onto vs st)
   pub today_passes : (st : List Value) → test (Values value_instr.Today) st
 
 -- one instruction after the other
@@ -81,20 +89,38 @@ fit_parts fit (Does i ∷ ps) qs h =
     ((h.0, p.0), p.1)
 
 -- pieces behind pieces, in a block
-pub record Between (constants : List Value) (run : Run) (ps qs : List Piece) (block : List Instr) (a b : List Value) : Type 0 where
+pub record Between (constants : List Value) (run : Run) (ps qs : List Piece) (block : List Instr)
+    (a b : List Value) : Type 0 where
   pub middle : List Value
   pub first : Goes constants run ps a middle
   pub last : Goes constants run qs middle b
   pub whole : block ≡ first.block ++ last.block
 
-pub parts_of : (constants : List Value) (run : Run) (ps qs : List Piece) (block : List Instr) (a b : List Value) → AllZip (IsPiece constants) (ps ++ qs) block → b ≡ through run block a → Between constants run ps qs block a b
-parts_of constants run [] qs block a b are leads = record { middle = a; first = record { block = []; are = tt; leads = refl }; last = record { block = block; are = are; leads = leads }; whole = refl }
+pub parts_of : (constants : List Value) (run : Run) (ps qs : List Piece) (block : List Instr) (a b : List Value)
+    → AllZip (IsPiece constants) (ps ++ qs) block → b ≡ through run block a → Between constants run ps qs block a b
+parts_of constants run [] qs block a b are leads =
+    record {
+      middle = a;
+      first = record { block = []; are = tt; leads = refl };
+      last = record { block = block; are = are; leads = leads };
+      whole = refl;
+    }
 parts_of constants run (p ∷ ps) qs [] a b are leads = absurd are
 parts_of constants run (p ∷ ps) qs (i ∷ is) a b are leads =
     let w = parts_of constants run ps qs is (run i a) b are.1 leads in
-    record { middle = w.middle; first = record { block = i ∷ w.first.block; are = (are.0, w.first.are); leads = w.first.leads }; last = w.last; whole = ap (λ (xs : List Instr). i ∷ xs) w.whole }
+    record {
+      middle = w.middle;
+      first = record {
+        block = i ∷ w.first.block;
+        are = (are.0, w.first.are);
+        leads = w.first.leads;
+      };
+      last = w.last;
+      whole = ap (λ (xs : List Instr). i ∷ xs) w.whole;
+    }
 
-pub parted : (constants : List Value) (run : Run) (ps qs : List Piece) (a b : List Value) → (g : Goes constants run (ps ++ qs) a b) → Between constants run ps qs g.block a b
+pub parted : (constants : List Value) (run : Run) (ps qs : List Piece) (a b : List Value)
+    → (g : Goes constants run (ps ++ qs) a b) → Between constants run ps qs g.block a b
 parted constants run ps qs a b g = parts_of constants run ps qs g.block a b g.are g.leads
 
 -- no piece changes nothing
@@ -106,7 +132,8 @@ goes_nowhere constants run a b g = still g.block g.are g.leads
     still (i ∷ is) are leads = absurd are
 
 -- one instruction
-pub goes_by : (constants : List Value) (run : Run) (j : Instr) (a b : List Value) → Goes constants run (Does j ∷ []) a b → b ≡ run j a
+pub goes_by : (constants : List Value) (run : Run) (j : Instr) (a b : List Value) → Goes constants run (Does j ∷ []) a b
+    → b ≡ run j a
 goes_by constants run j a b g = by g.block g.are g.leads
   where
     by : (block : List Instr) → AllZip (IsPiece constants) (Does j ∷ []) block → b ≡ through run block a → b ≡ run j a
@@ -115,7 +142,9 @@ goes_by constants run j a b g = by g.block g.are g.leads
     by (i ∷ i2 ∷ is) are leads = absurd are.1
 
 -- one constant
-pub goes_constant : (s : Scoped) (v : Sight) (constants : List Value) (fit : Instr → Type 0) (run : Run) (test : Instr → List Value → Type 0) → Machine s v constants fit run test → (c : Value) (a b : List Value) → Goes constants run (Constant c ∷ []) a b → b ≡ c ∷ a
+pub goes_constant : (s : Scoped) (v : Sight) (constants : List Value) (fit : Instr → Type 0) (run : Run)
+    (test : Instr → List Value → Type 0) → Machine s v constants fit run test → (c : Value) (a b : List Value)
+    → Goes constants run (Constant c ∷ []) a b → b ≡ c ∷ a
 goes_constant s v constants fit run test m c a b g = by g.block g.are g.leads
   where
     by : (block : List Instr) → AllZip (IsPiece constants) (Constant c ∷ []) block → b ≡ through run block a → b ≡ c ∷ a

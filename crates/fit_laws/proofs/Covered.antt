@@ -3,9 +3,7 @@ use Rattle.std.proofs.Common.{◌≡◌, ℕ, zero, suc, true, false, ◌&&◌, 
 use Rattle.std.specs.Prelude.{is_none, slice_get}
 use Rattle.std.proofs.lemmas.Bool.{and_parts, eqb-true}
 use Rattle.xvalue.specs.declared.kind.Kind.{Kind}
-use Rattle.xvalue.specs.declared.kind.Kind.TheVariants.{Number as OfNumber, Text as OfText, Date as OfDate}
-use Rattle.xvalue.specs.declared.kind.Kind.TheVariants.{Logical as OfLogical}
-use Rattle.xvalue.specs.Kinds.{same_kind}
+use Rattle.xvalue.proofs.KindLemmas.{kinds_same}
 use Rattle.code_items.specs.declared.desk.OpenArea.{OpenArea}
 use Rattle.code_items.specs.declared.desk.AreaState.{AreaState}
 use Rattle.code_items.specs.declared.desk.AreaState.TheVariants.{Closed, Open as IsOpen, Unsure}
@@ -16,24 +14,6 @@ use Rattle.code_items.specs.Kinds.{same_pair, same_kinds, slots_covered}
 use Rattle.code_rules.specs.Rules.{covers, selected_in}
 
 -- ---- kinds
-
-pub kinds_same : (k l : Kind) → same_kind k l ≡ true → k ≡ l
-kinds_same OfNumber OfNumber e = refl
-kinds_same OfNumber OfText e = absurd (cc)
-kinds_same OfNumber OfDate e = absurd (cc)
-kinds_same OfNumber OfLogical e = absurd (cc)
-kinds_same OfText OfNumber e = absurd (cc)
-kinds_same OfText OfText e = refl
-kinds_same OfText OfDate e = absurd (cc)
-kinds_same OfText OfLogical e = absurd (cc)
-kinds_same OfDate OfNumber e = absurd (cc)
-kinds_same OfDate OfText e = absurd (cc)
-kinds_same OfDate OfDate e = refl
-kinds_same OfDate OfLogical e = absurd (cc)
-kinds_same OfLogical OfNumber e = absurd (cc)
-kinds_same OfLogical OfText e = absurd (cc)
-kinds_same OfLogical OfDate e = absurd (cc)
-kinds_same OfLogical OfLogical e = refl
 
 pub joined : {A : Type 0} (k l : A) (ks ls : List A) → k ≡ l → ks ≡ ls → k ∷ ks ≡ l ∷ ls
 joined k l ks ls e f = rw (e, f) refl

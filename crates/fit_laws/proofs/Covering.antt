@@ -3,6 +3,7 @@ use Rattle.std.proofs.Common.{◌≡◌, ℕ, Bool, true, ◌&&◌, ◌==◌, Li
 use Rattle.std.proofs.lemmas.Bool.{and_parts, and_from, eqb-true, eq-eqb}
 use Rattle.xvalue.specs.declared.kind.Kind.{Kind}
 use Rattle.xvalue.specs.Kinds.{same_kind}
+use Rattle.xvalue.proofs.KindLemmas.{kinds_same}
 use Rattle.code_items.specs.declared.desk.OpenArea.{OpenArea}
 use Rattle.code_items.specs.declared.desk.AreaState.{AreaState}
 use Rattle.code_items.specs.declared.desk.AreaState.TheVariants.{Closed, Open as IsOpen, Unsure}
@@ -13,7 +14,6 @@ use Rattle.code_items.specs.Desks.{same_area, area_covered, areas_covered, desk_
 use Rattle.code_items.specs.Kinds.{same_pair, same_kinds, slot_covered, slots_covered}
 use Rattle.code_rules.specs.Rules.{covers}
 use Rattle.code_rules.proofs.Covering.{kind_self, slot_self, number_self, area_self}
-use Rattle.fit_laws.proofs.Covered.{kinds_same}
 
 -- ---- each is covered by itself
 

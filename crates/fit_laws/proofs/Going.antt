@@ -4,6 +4,7 @@ use Rattle.std.proofs.Common.{Some, refl, sym, subst, arith}
 use Rattle.std.specs.Prelude.{is_none, slice_get, unwrap_or}
 use Rattle.std.proofs.lemmas.Bool.{and_parts, and_from}
 use Rattle.xvalue.specs.declared.kind.Kind.{Kind}
+use Rattle.xvalue.proofs.KindLemmas.{kinds_same}
 use Rattle.work_area.specs.Areas.{AreApart}
 use Rattle.code_items.specs.declared.code.Code.{Code}
 use Rattle.code_items.specs.declared.code.Proc.{Proc}
@@ -42,7 +43,7 @@ use Rattle.run_laws.proofs.Ready.{ready}
 use Rattle.run_laws.proofs.Tests.{all_within}
 use Rattle.fit_laws.specs.Fits.{Fits, procedure_at, Awaits, IsFitting}
 use Rattle.fit_laws.proofs.Clear.{Rules, rules, outside}
-use Rattle.fit_laws.proofs.Covered.{Covered, covered, Desks, kinds_same}
+use Rattle.fit_laws.proofs.Covered.{Covered, covered, Desks}
 use Rattle.fit_laws.proofs.Covering.{stack_self}
 use Rattle.fit_laws.proofs.Desks.{IsKnown}
 use Rattle.fit_laws.proofs.DesksAfter.{desk_on, desks_covered}

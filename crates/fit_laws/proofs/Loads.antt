@@ -4,6 +4,7 @@ use Rattle.std.specs.Prelude.{slice_get}
 use Rattle.std.specs.List.{list_any}
 use Rattle.std.proofs.lemmas.Bool.{and_parts, or_parts, or_from}
 use Rattle.xvalue.specs.declared.kind.Kind.{Kind}
+use Rattle.xvalue.proofs.KindLemmas.{kinds_same}
 use Rattle.code_items.specs.declared.declared.Need.{Need}
 use Rattle.code_items.specs.declared.declared.Filter.{Filter}
 use Rattle.code_items.specs.declared.state.State.{State}
@@ -14,7 +15,6 @@ use Rattle.code_items.specs.declared.instr.ValueInstr.TheVariants.{Today, Set}
 use Rattle.code_items.specs.declared.instr.Instr.{Instr}
 use Rattle.code_items.specs.declared.instr.Instr.TheVariants.{Values, Flow, Screen, Areas, Moves, Records}
 use Rattle.code_rules.specs.Rules.{has_other, is_free, loads_other, loads_free, lacks, filter_lacks}
-use Rattle.fit_laws.proofs.Covered.{kinds_same}
 
 -- it is set, and not to another kind
 pub record Loads (k : Kind) (o : Option (Option Kind)) : Type 0 where

@@ -6,6 +6,7 @@ use Rattle.std.specs.List.{list_any}
 use Rattle.std.proofs.lemmas.Bool.{and_parts, and_from, or_parts, not-false}
 use Rattle.xvalue.specs.declared.kind.Kind.{Kind}
 use Rattle.xvalue.specs.Kinds.{same_kind}
+use Rattle.xvalue.proofs.KindLemmas.{kinds_same}
 use Rattle.code_items.specs.declared.declared.Need.{Need}
 use Rattle.code_items.specs.declared.declared.Filter.{Filter}
 use Rattle.code_items.specs.declared.code.Code.{Code}
@@ -21,7 +22,6 @@ use Rattle.code_rules.specs.Rules.{filters, has_other, is_free, lacks, filter_la
 use Rattle.run_steps.specs.Filters.{block_start}
 use Rattle.run_laws.proofs.FilterBlocks.{sound_here, sound_there}
 use Rattle.fit_laws.specs.FilterWalks.{Steps, BlockWalks}
-use Rattle.fit_laws.proofs.Covered.{kinds_same}
 use Rattle.fit_laws.proofs.Filtering.{left_is}
 use Rattle.fit_laws.proofs.Loads.{Loads, impossible, loads_well}
 

@@ -3,6 +3,7 @@ use Rattle.std.proofs.Common.{◌≡◌, ◌≤◌, ℕ, zero, suc, true, false,
 use Rattle.std.proofs.Common.{subst, arith}
 use Rattle.std.specs.Prelude.{option_and_then}
 use Rattle.std.proofs.lemmas.List.{length-map}
+use Rattle.std.proofs.lemmas.Option.{same_Some, none-some}
 use Rattle.xvalue.specs.Kinds.{kind_of}
 use Rattle.code_items.specs.declared.code.Code.{Code}
 use Rattle.code_rules.specs.Places.{instr_at}
@@ -19,12 +20,6 @@ pub record Goes (code : Code) : Type 0 where
   pub on : (w : World) → IsFitting code w → finishes w (instr_at code w.place) ≡ false
       → IsFitting code (effect code w (instr_at code w.place))
 
-pub some_same : {A : Type 0} (a b : A) → Some a ≡ Some b → a ≡ b
-some_same a b e = cc
-
-pub none_some : {A : Type 0} (P : Type 0) (b : A) → None ≡ Some b → P
-none_some P b e = absurd (cc)
-
 steps_on : (code : Code) (w : World) → IsSafeHere code w → finishes w (instr_at code w.place) ≡ false
     → step_of code w ≡ Next (effect code w (instr_at code w.place))
 unfolding step_of
@@ -39,20 +34,20 @@ step_fits : (code : Code) → Goes code → (w v : World) → IsFitting code w �
     → IsFitting code v
 step_fits code g w v f e =
     elim (finishes w (instr_at code w.place)) as (λ b. finishes w (instr_at code w.place) ≡ b → IsFitting code v) [
-      | true ↦ λ ends. none_some (IsFitting code v) v (sym (ap next_world (steps_out code w (g.safe w f) ends)) ∙ e)
+      | true ↦ λ ends. absurd (none-some v (sym (ap next_world (steps_out code w (g.safe w f) ends)) ∙ e))
       | false ↦ λ goes. (let next : Some (effect code w (instr_at code w.place)) ≡ Some v = sym
           (ap next_world (steps_on code w (g.safe w f) goes)) ∙ e in
-          subst (IsFitting code) (some_same (effect code w (instr_at code w.place)) v next) (g.on w f goes))
+          subst (IsFitting code) (same_Some (effect code w (instr_at code w.place)) v next) (g.on w f goes))
     ] refl
 
 then_fits : (code : Code) → Goes code → (x : Option World) (v : World) → ((w : World) → x ≡ Some w → IsFitting code w)
     → option_and_then (λ w. next_world (step_of code w)) x ≡ Some v → IsFitting code v
-then_fits code g None v h e = none_some (IsFitting code v) v e
+then_fits code g None v h e = absurd (none-some v e)
 then_fits code g (Some w) v h e = step_fits code g w v (h w refl) e
 
 pub run_fits : (code : Code) → Goes code → (w : World) → IsFitting code w → (n : ℕ) (v : World)
     → after code w n ≡ Some v → IsFitting code v
-run_fits code g w f zero v e = subst (IsFitting code) (some_same w v e) f
+run_fits code g w f zero v e = subst (IsFitting code) (same_Some w v e) f
 run_fits code g w f (suc n) v e = then_fits code g (after code w n) v (λ u at. run_fits code g w f n u at) e
 
 -- ---- bounds

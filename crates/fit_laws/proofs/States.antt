@@ -1,17 +1,12 @@
 -- The states before the places of a block.
-use Rattle.std.proofs.Common.{◌≡◌, ◌≤◌, ℕ, zero, suc, ◌+◌, false, Option, Some, None, refl, ap, subst, arith}
+use Rattle.std.proofs.Common.{◌≡◌, ◌≤◌, ℕ, suc, ◌+◌, false, Option, Some, None, refl, ap, subst, arith}
 use Rattle.std.specs.Prelude.{is_none}
-use Rattle.std.proofs.lemmas.Bool.{eq-eqb, ne_eqb}
+use Rattle.std.proofs.lemmas.Bool.{ne_eqb}
 use Rattle.code_items.specs.declared.code.Code.{Code}
 use Rattle.code_items.specs.declared.state.State.{State}
 use Rattle.code_rules.specs.Places.{block_at, map_at, start_of, or_state, incoming_at, state_at}
+use Rattle.code_rules.proofs.Incoming.{at_first}
 use Rattle.fit_laws.specs.Connects.{left_at}
-
-at_first : (code : Code) (place : ℕ) → (block_at code place).first ≡ place
-    → incoming_at code place ≡ start_of code (block_at code place).number
-unfolding incoming_at
-at_first code zero e = refl
-at_first code (suc place) e = rw (eq-eqb (block_at code (suc place)).first (suc place) e) refl
 
 at_next : (code : Code) (place : ℕ) → (block_at code (suc place)).first ≤ place
     → incoming_at code (suc place) ≡ left_at code place

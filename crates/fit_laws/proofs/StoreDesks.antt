@@ -47,7 +47,8 @@ use Rattle.run_steps.specs.Needs.{AreaNeeds, Needs}
 use Rattle.run_laws.proofs.Known.{OpenThere, area_by}
 use Rattle.run_laws.proofs.OnAreas.{open_names, some_index}
 use Rattle.run_laws.proofs.Tests.{first_no, second_no, then_no, not_zero, is_there}
-use Rattle.run_laws.proofs.Stores.{set_other, set_there, put_closed, put_is}
+use Rattle.work_area.proofs.AreaLemmas.{get_set_other, put_closed, put_closed_here}
+use Rattle.run_laws.proofs.Stores.{set_there}
 use Rattle.run_laws.proofs.Changes.{value_store, screen_store}
 use Rattle.fit_laws.proofs.Covered.{joined}
 
@@ -113,7 +114,7 @@ others_keep : (s : StoreState) (u : Use) (p : OpenState) → AreApart s.areas �
     → (n : ℕ) (v : Use) → n ≢ s.selected - 1 → slice_index_or s.areas n None ≡ Some v
     → order_of (slice_get (slice_set s.tables u.table p) v.table) ≡ order_of (slice_get s.tables v.table)
 others_keep s u p apart there n v differ e =
-    ap order_of (set_other s.tables u.table v.table p (λ same. differ (apart n (s.selected - 1) v u e there same)))
+    ap order_of (get_set_other s.tables u.table v.table p (λ same. differ (apart n (s.selected - 1) v u e there same)))
 
 -- ---- changes of the selected area's table that keep its order
 
@@ -194,7 +195,8 @@ leaves s (Some u) (Some o) apart there = record {
 }
 
 closed_leaves : (s : StoreState) → AreApart s.areas → Leaves s (change_here closed s)
-closed_leaves s apart = subst (Leaves s) (sym (put_is (here s) s)) (leaves s (selected_use s) (here s) apart refl)
+closed_leaves s apart = subst (Leaves s) (sym (put_closed_here (here s) s))
+    (leaves s (selected_use s) (here s) apart refl)
 
 close_desk : (s : StoreState) → AreApart s.areas → 1 ≤ s.selected
     → desk_of (closed_here s) ≡ with_selected_area Closed (desk_of s)
@@ -257,7 +259,7 @@ used_desk s t l o p apart one at elsewhere order =
     ∙ ap (λ (areas : List (Option Use)). desk s.selected (map (area_state tables) areas))
     (set-set s.areas (s.selected - 1) None (Some held))
     ∙ put_desk s tables (Some held) (IsOpen (just_opened t l)) one is
-    (λ n v differ e. ap order_of (set_other z.tables t v.table p
+    (λ n v differ e. ap order_of (get_set_other z.tables t v.table p
     (not_held (slice_set s.areas (s.selected - 1) None) n t v elsewhere
     (get_or-set_other s.areas (s.selected - 1) n None None differ ∙ e))) ∙ c.orders n v differ e)
 

@@ -14,6 +14,7 @@ use Rattle.xvalue.specs.Functions.{applied}
 use Rattle.xvalue.specs.Given.{by_kind}
 use Rattle.xvalue.specs.Kinds.{kind_of, same_kind}
 use Rattle.xvalue.specs.Signature.{takes_of, gives_of}
+use Rattle.xvalue.proofs.KindLemmas.{kinds_same}
 use Rattle.code_items.specs.declared.code.Code.{Code}
 use Rattle.code_items.specs.Kinds.{clashes, slot_covered, slots_covered}
 use Rattle.code_items.specs.declared.instr.ValueInstr.{ValueInstr}
@@ -31,7 +32,7 @@ use Rattle.run_steps.specs.World.{World, EnvState, state_of, kind_held}
 use Rattle.run_steps.specs.Effects.{on_value, with_pushed, value_values, screen_values}
 use Rattle.run_steps.specs.Needs.{LoadNeeds}
 use Rattle.run_steps.proofs.Results.{ResultLaw}
-use Rattle.fit_laws.proofs.Covered.{kinds_same, joined}
+use Rattle.fit_laws.proofs.Covered.{joined}
 use Rattle.code_rules.proofs.Covering.{kind_self}
 use Rattle.fit_laws.proofs.Filters.{Legal}
 use Rattle.fit_laws.proofs.Loads.{LoadsWell}

@@ -14,17 +14,20 @@ left true rest name e = absurd (cc)
 
 -- behind a hyphen stands another one, or none does
 pub of_two : (name rest : List ℕ) → name ≡ 45 ∷ rest → begins_with_hyphen rest ≡ true → rest ≡ sum_key name
-of_two name rest is two = subst (λ (n : List ℕ). rest ≡ sum_key n) (sym is) (chosen (begins_with_hyphen rest) rest (45 ∷ rest) two)
+of_two name rest is two = subst (λ (n : List ℕ). rest ≡ sum_key n) (sym is)
+    (chosen (begins_with_hyphen rest) rest (45 ∷ rest) two)
 
 pub of_one : (name rest : List ℕ) → name ≡ 45 ∷ rest → begins_with_hyphen rest ≡ false → name ≡ sum_key name
-of_one name rest is one = subst (λ (n : List ℕ). n ≡ sum_key n) (sym is) (left (begins_with_hyphen rest) rest (45 ∷ rest) one)
+of_one name rest is one = subst (λ (n : List ℕ). n ≡ sum_key n) (sym is)
+    (left (begins_with_hyphen rest) rest (45 ∷ rest) one)
 
 -- no hyphen stands in front
 pub of_none : (name : List ℕ) → ((rest : List ℕ) → name ≢ 45 ∷ rest) → name ≡ sum_key name
 of_none [] other = refl
 of_none (first ∷ rest) other = by_test (first == 45) refl
   where
-    by_test : (b : Bool) → (first == 45) ≡ b → (first ∷ rest) ≡ (if b && begins_with_hyphen rest then rest else first ∷ rest)
+    by_test : (b : Bool) → (first == 45) ≡ b
+        → (first ∷ rest) ≡ (if b && begins_with_hyphen rest then rest else first ∷ rest)
     by_test false is = refl
     by_test true is =
         let same : first ≡ 45 = grind (arith, nat_tests, is) in

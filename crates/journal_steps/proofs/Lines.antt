@@ -1,5 +1,6 @@
 -- Lines and the bytes that hold them.
-use Rattle.std.proofs.Common.{◌≡◌, ◌≢◌, ℕ, Bool, true, false, cond, eqb, List, [], ◌∷◌, ◌++◌, refl, sym, ap, ◌∙◌, append_assoc}
+use Rattle.std.proofs.Common.{◌≡◌, ◌≢◌, ℕ, Bool, true, false, cond, eqb, List, [], ◌∷◌, ◌++◌, refl, sym, ap, ◌∙◌}
+use Rattle.std.proofs.Common.{append_assoc}
 use Rattle.std.specs.List.{AllByRecursion}
 use Rattle.std.proofs.lemmas.Bool.{eqb-false, ne_eqb}
 use Rattle.std.proofs.lemmas.List.{append-nil}
@@ -14,7 +15,8 @@ both_longer : (c : Bool) (a b x y : List (List ℕ)) → IsLonger a x → IsLong
 both_longer true a b x y p q = p
 both_longer false a b x y p q = q
 
-pub longer : (front j x : List ℕ) → (rest : List (List ℕ)) × (lines_after_front front (j ++ x) ≡ lines_after_front front j ++ rest)
+pub longer : (front j x : List ℕ) → (rest : List (List ℕ))
+    × (lines_after_front front (j ++ x) ≡ lines_after_front front j ++ rest)
 longer front [] x = (lines_after_front front x, refl)
 longer front (b ∷ bs) x =
     let p = longer [] bs x in
@@ -27,7 +29,8 @@ pub one_line : (front line rest : List ℕ) → IsClean line
     → lines_after_front front (line ++ 10 ∷ rest) ≡ (front ++ line) ∷ lines_after_front [] rest
 one_line front [] rest clean = ap (λ (l : List ℕ). l ∷ lines_after_front [] rest) (sym (append-nil front))
 one_line front (b ∷ bs) rest (ne, clean) =
-    ap (λ (c : Bool). cond c (front ∷ lines_after_front [] (bs ++ 10 ∷ rest)) (lines_after_front (front ++ b ∷ []) (bs ++ 10 ∷ rest)))
+    ap (λ (c : Bool). cond c (front ∷ lines_after_front [] (bs ++ 10 ∷ rest))
+    (lines_after_front (front ++ b ∷ []) (bs ++ 10 ∷ rest)))
     (ne_eqb b 10 ne)
     ∙ one_line (front ++ b ∷ []) bs rest clean
     ∙ ap (λ (l : List ℕ). l ∷ lines_after_front [] rest) (append_assoc front (b ∷ []) bs)

@@ -1,11 +1,15 @@
 -- What sessions keep.
-use Rattle.std.proofs.Common.{◌≡◌, ◌⊎◌, inl, inr, ◌≤◌, ℕ, suc, Bool, true, false, List, [], ◌∷◌, ◌++◌, Option, Some, None, take, refl, sym, ap, subst, ◌∙◌, append_assoc, arith}
+use Rattle.std.proofs.Common.{◌≡◌, ◌⊎◌, inl, inr, ◌≤◌, ℕ, suc, Bool, true, false, List, [], ◌∷◌, ◌++◌, Option, Some}
+use Rattle.std.proofs.Common.{None, take, refl, sym, ap, subst, ◌∙◌, append_assoc, arith}
 use Rattle.std.specs.List.{AllByRecursion}
 use Rattle.std.specs.Option.{option_map}
 use Rattle.std.proofs.lemmas.List.{append-nil}
 use Rattle.std.proofs.lemmas.Option.{same_Some}
 use Rattle.journal_steps.specs.Next.{next_of}
-use Rattle.journal_steps.specs.Folder.{Folder, Tables, Old, New, Other, Moment, Session, MakeJournal, WriteBegun, CutJournal, Take, WriteNote, Place, WriteDone, RemoveNote, are_old, empty_folder, with_tables_placed, unlines, whole_lines, with_more_bytes, behind_deed, StoppedAt, talk, last_deeds, begins, LeftBy}
+use Rattle.journal_steps.specs.Folder.{Folder, Tables, Old, New, Other, Moment, Session, MakeJournal, WriteBegun}
+use Rattle.journal_steps.specs.Folder.{CutJournal, Take, WriteNote, Place, WriteDone, RemoveNote, are_old, empty_folder}
+use Rattle.journal_steps.specs.Folder.{with_tables_placed, unlines, whole_lines, with_more_bytes, behind_deed}
+use Rattle.journal_steps.specs.Folder.{StoppedAt, talk, last_deeds, begins, LeftBy}
 use Rattle.journal_steps.specs.Folder.{Visit, Talks, Forgets, Changes, PutsBack, changed, put_back}
 use Rattle.journal_steps.specs.Promise.{IsClean, AreClean, LinesStand, NothingLost, Passed, IsKeptAndSavedOnce}
 use Rattle.journal_steps.proofs.Lines.{longer, whole_again, unlines_behind, read_clean, clean_append}
@@ -22,8 +26,15 @@ grows_same f g e j is = (j, e ∙ is, ([], sym (append-nil (whole_lines j))))
 grows_then : (f g h : Folder) → Grows f g → Grows g h → Grows f h
 grows_then f g h p q j is =
     let a = p j is in
-    let b = q a.0 a.1 in
-    (b.0, b.1, (a.2.0 ++ b.2.0, b.2.1 ∙ ap (λ (x : List (List ℕ)). x ++ b.2.0) a.2.1 ∙ append_assoc (whole_lines j) a.2.0 b.2.0))
+    let b = q a.0 a.1 in (
+      b.0,
+      b.1,
+      (
+        a.2.0 ++ b.2.0,
+        b.2.1 ∙ ap (λ (x : List (List ℕ)). x ++ b.2.0) a.2.1
+            ∙ append_assoc (whole_lines j) a.2.0 b.2.0,
+      ),
+    )
 
 kept_moves : (f g : Folder) (lines : List (List ℕ)) → Grows f g → LinesStand f lines → LinesStand g lines
 kept_moves f g lines grows kept =
@@ -102,31 +113,41 @@ ends m n g e t j sound = record {
   sound = subst Sound (sym e) sound;
 }
 
-end_stops : (saves : Bool) (m n : Moment) → m.folder.saves ≡ 0 → m.folder.begun ≡ true → StoppedAt (last_deeds saves) m n → End m n
+end_stops : (saves : Bool) (m n : Moment) → m.folder.saves ≡ 0 → m.folder.begun ≡ true
+    → StoppedAt (last_deeds saves) m n → End m n
 end_stops false m n none begun (inl (inl e, t)) = ends m n m.folder e t refl (inl (none, inr begun))
-end_stops false m n none begun (inl (inr e, t)) = ends m n (behind_deed WriteDone m.folder) e t refl (inl (none, inr begun))
+end_stops false m n none begun (inl (inr e, t)) =
+    ends m n (behind_deed WriteDone m.folder) e t refl (inl (none, inr begun))
 end_stops false m n none begun (inr e) =
-    ends m n (behind_deed WriteDone m.folder) (ap (λ (x : Moment). x.folder) e) (ap (λ (x : Moment). x.taken) e) refl (inl (none, inr begun))
+    ends m n (behind_deed WriteDone m.folder) (ap (λ (x : Moment). x.folder) e) (ap (λ (x : Moment). x.taken) e) refl
+    (inl (none, inr begun))
 end_stops true m n none begun (inl (inl e, t)) = ends m n m.folder e t refl (inl (none, inr begun))
-end_stops true m n none begun (inl (inr e, t)) = ends m n (behind_deed WriteNote m.folder) e t refl (inl (none, inr begun))
-end_stops true m n none begun (inr (inl (inl e, t))) = ends m n (behind_deed WriteNote m.folder) e t refl (inl (none, inr begun))
+end_stops true m n none begun (inl (inr e, t)) =
+    ends m n (behind_deed WriteNote m.folder) e t refl (inl (none, inr begun))
+end_stops true m n none begun (inr (inl (inl e, t))) =
+    ends m n (behind_deed WriteNote m.folder) e t refl (inl (none, inr begun))
 end_stops true m n none begun (inr (inl (inr e, t))) =
     ends m n (behind_deed Place (behind_deed WriteNote m.folder)) e t refl (inr (ap suc none, refl, begun, refl))
 end_stops true m n none begun (inr (inr (inl (inl e, t)))) =
     ends m n (behind_deed Place (behind_deed WriteNote m.folder)) e t refl (inr (ap suc none, refl, begun, refl))
 end_stops true m n none begun (inr (inr (inl (inr e, t)))) =
-    ends m n (behind_deed WriteDone (behind_deed Place (behind_deed WriteNote m.folder))) e t refl (inr (ap suc none, refl, begun, refl))
+    ends m n (behind_deed WriteDone (behind_deed Place (behind_deed WriteNote m.folder))) e t refl
+    (inr (ap suc none, refl, begun, refl))
 end_stops true m n none begun (inr (inr (inr (inl (inl e, t))))) =
-    ends m n (behind_deed WriteDone (behind_deed Place (behind_deed WriteNote m.folder))) e t refl (inr (ap suc none, refl, begun, refl))
+    ends m n (behind_deed WriteDone (behind_deed Place (behind_deed WriteNote m.folder))) e t refl
+    (inr (ap suc none, refl, begun, refl))
 end_stops true m n none begun (inr (inr (inr (inl (inr e, t))))) =
-    ends m n (behind_deed RemoveNote (behind_deed WriteDone (behind_deed Place (behind_deed WriteNote m.folder)))) e t refl (inr (ap suc none, refl, begun, refl))
+    ends m n (behind_deed RemoveNote (behind_deed WriteDone (behind_deed Place (behind_deed WriteNote m.folder)))) e t
+    refl (inr (ap suc none, refl, begun, refl))
 end_stops true m n none begun (inr (inr (inr (inr e)))) =
-    ends m n (behind_deed RemoveNote (behind_deed WriteDone (behind_deed Place (behind_deed WriteNote m.folder)))) (ap (λ (x : Moment). x.folder) e)
+    ends m n (behind_deed RemoveNote (behind_deed WriteDone (behind_deed Place (behind_deed WriteNote m.folder))))
+    (ap (λ (x : Moment). x.folder) e)
     (ap (λ (x : Moment). x.taken) e) refl (inr (ap suc none, refl, begun, refl))
 
 -- ---- lines that are kept and taken
 
--- the journal holds the lines that the machine has taken, and nothing else; the conversation was begun, and nothing saved
+-- the journal holds the lines that the machine has taken, and nothing else; the conversation was begun, and nothing
+-- saved
 record IsExact (m : Moment) : Type 0 where
   pub journal : m.folder.journal ≡ Some (unlines m.taken)
   pub clean : AllByRecursion IsClean m.taken
@@ -175,21 +196,25 @@ talk_stops : (lines : List (List ℕ)) (saves : Bool) (m n : Moment) → AllByRe
     → StoppedAt (talk lines ++ last_deeds saves) m n → Result m.folder n
 talk_stops [] saves m n clean exact h = ended m n exact (end_stops saves m n exact.saves exact.begun h)
 talk_stops (l ∷ ls) saves m n clean exact (inl ((k, e), t)) =
-    stays m n (with_more_bytes (take k (l ++ 10 ∷ [])) m.folder) (take k (l ++ 10 ∷ [])) exact e t refl (inl (exact.saves, inr exact.begun))
+    stays m n (with_more_bytes (take k (l ++ 10 ∷ [])) m.folder) (take k (l ++ 10 ∷ [])) exact e t refl
+    (inl (exact.saves, inr exact.begun))
 talk_stops (l ∷ ls) saves m n clean exact (inr (inl (inl e, t))) =
-    stays m n (with_more_bytes (l ++ 10 ∷ []) m.folder) (l ++ 10 ∷ []) exact e t refl (inl (exact.saves, inr exact.begun))
+    stays m n (with_more_bytes (l ++ 10 ∷ []) m.folder) (l ++ 10 ∷ []) exact e t refl
+    (inl (exact.saves, inr exact.begun))
 talk_stops (l ∷ ls) saves m n clean exact (inr (inl (inr e, t))) =
-    stays m n (with_more_bytes (l ++ 10 ∷ []) m.folder) (l ++ 10 ∷ []) exact e t refl (inl (exact.saves, inr exact.begun))
+    stays m n (with_more_bytes (l ++ 10 ∷ []) m.folder) (l ++ 10 ∷ []) exact e t refl
+    (inl (exact.saves, inr exact.begun))
 talk_stops (l ∷ ls) saves m n (here, clean) exact (inr (inr h)) =
     let a = grown m (with_more_bytes (l ++ 10 ∷ []) m.folder) (l ++ 10 ∷ []) exact refl in
     let next : Moment = record { folder = with_more_bytes (l ++ 10 ∷ []) m.folder; taken = m.taken ++ l ∷ [] } in
-    let then : IsExact (record { folder = with_more_bytes (l ++ 10 ∷ []) m.folder; taken = m.taken ++ l ∷ [] }) = record {
+    let then : IsExact next = record {
       journal = a.0 ∙ ap (λ (b : List ℕ). Some b) (sym (unlines_behind m.taken (l ∷ [])));
       clean = clean_append m.taken (l ∷ []) exact.clean (here, tt);
       saves = exact.saves;
       begun = exact.begun;
     } in
-    let r = talk_stops ls saves (record { folder = with_more_bytes (l ++ 10 ∷ []) m.folder; taken = m.taken ++ l ∷ [] }) n clean then h in
+    let r = talk_stops ls saves (record { folder = with_more_bytes (l ++ 10 ∷ []) m.folder; taken = m.taken ++ l ∷ [] })
+    n clean then h in
     record {
       grows = grows_then m.folder (with_more_bytes (l ++ 10 ∷ []) m.folder) n.folder a.2 r.grows;
       kept = r.kept;
@@ -214,7 +239,8 @@ empty_journal : (f : Folder) → f.journal ≡ Some [] → Grows f (behind_deed 
 empty_journal f here = grows_same f (behind_deed MakeJournal f) (sym here)
 
 begin_stops : (f : Folder) (s : Session) (n : Moment) → AllByRecursion IsClean s.typed
-    → Grows f (behind_deed MakeJournal f) → Unsaved f → StoppedAt (MakeJournal ∷ WriteBegun ∷ talk s.typed ++ last_deeds s.saves) (begins f) n → Result f n
+    → Grows f (behind_deed MakeJournal f) → Unsaved f
+    → StoppedAt (MakeJournal ∷ WriteBegun ∷ talk s.typed ++ last_deeds s.saves) (begins f) n → Result f n
 begin_stops f s n clean fresh is (inl (inl e, t)) =
     took_none f f n e t (grows_same f f refl) (inl is)
 begin_stops f s n clean fresh is (inl (inr e, t)) =
@@ -240,7 +266,11 @@ cut_grows f j here i is =
     let lines = whole_lines j in (
       unlines (whole_lines j),
       ap (option_map (λ (b : List ℕ). unlines (whole_lines b))) here,
-      ([], whole_again (whole_lines j) (read_clean [] j tt) ∙ ap whole_lines (sym same) ∙ sym (append-nil (whole_lines i))),
+      (
+        [],
+        whole_again (whole_lines j) (read_clean [] j tt) ∙ ap whole_lines (sym same)
+            ∙ sym (append-nil (whole_lines i)),
+      ),
     )
 
 go_on_stops : (f : Folder) (j : List ℕ) (s : Session) (n : Moment) → AllByRecursion IsClean s.typed → f.journal ≡ Some j
@@ -261,7 +291,8 @@ go_on_stops f j s n clean here saves begun (inr (inr h)) =
       saves = saves;
       begun = begun;
     } in
-    let r = talk_stops s.typed s.saves (record { folder = behind_deed CutJournal f; taken = whole_lines j }) n clean exact h in
+    let r = talk_stops s.typed s.saves (record { folder = behind_deed CutJournal f; taken = whole_lines j }) n clean
+    exact h in
     record {
       grows = grows_then f (behind_deed CutJournal f) n.folder (cut_grows f j here) r.grows;
       kept = r.kept;
@@ -272,30 +303,41 @@ go_on_stops f j s n clean here saves begun (inr (inr h)) =
 finish_stops : (f : Folder) (n : Moment) → Sound f → StoppedAt (Place ∷ WriteDone ∷ RemoveNote ∷ []) (begins f) n
     → Result f n × (n.taken ≡ [])
 finish_stops f n sound (inl (inl e, t)) = (took_none f f n e t (grows_same f f refl) sound, t)
-finish_stops f n sound (inl (inr e, t)) =
-    (took_none f (with_tables_placed f.waits f) n e t (grows_same f (with_tables_placed f.waits f) (place_journal f f.waits)) (place_sound f f.waits refl sound), t)
-finish_stops f n sound (inr (inl (inl e, t))) =
-    (took_none f (with_tables_placed f.waits f) n e t (grows_same f (with_tables_placed f.waits f) (place_journal f f.waits)) (place_sound f f.waits refl sound), t)
+finish_stops f n sound (inl (inr e, t)) = (
+  took_none f (with_tables_placed f.waits f) n e t
+      (grows_same f (with_tables_placed f.waits f) (place_journal f f.waits)) (place_sound f f.waits refl sound),
+  t,
+)
+finish_stops f n sound (inr (inl (inl e, t))) = (
+  took_none f (with_tables_placed f.waits f) n e t
+      (grows_same f (with_tables_placed f.waits f) (place_journal f f.waits)) (place_sound f f.waits refl sound),
+  t,
+)
 finish_stops f n sound (inr (inl (inr e, t))) = (
-  took_none f (behind_deed WriteDone (with_tables_placed f.waits f)) n e t (grows_same f (behind_deed WriteDone (with_tables_placed f.waits f)) (place_journal f f.waits))
+  took_none f (behind_deed WriteDone (with_tables_placed f.waits f)) n e t
+      (grows_same f (behind_deed WriteDone (with_tables_placed f.waits f)) (place_journal f f.waits))
       (place_sound f f.waits refl sound),
   t,
 )
 finish_stops f n sound (inr (inr (inl (inl e, t)))) = (
-  took_none f (behind_deed WriteDone (with_tables_placed f.waits f)) n e t (grows_same f (behind_deed WriteDone (with_tables_placed f.waits f)) (place_journal f f.waits))
+  took_none f (behind_deed WriteDone (with_tables_placed f.waits f)) n e t
+      (grows_same f (behind_deed WriteDone (with_tables_placed f.waits f)) (place_journal f f.waits))
       (place_sound f f.waits refl sound),
   t,
 )
 finish_stops f n sound (inr (inr (inl (inr e, t)))) = (
   took_none f (behind_deed RemoveNote (behind_deed WriteDone (with_tables_placed f.waits f))) n e t
-      (grows_same f (behind_deed RemoveNote (behind_deed WriteDone (with_tables_placed f.waits f))) (place_journal f f.waits))
+      (grows_same f (behind_deed RemoveNote (behind_deed WriteDone (with_tables_placed f.waits f)))
+      (place_journal f f.waits))
       (remove_sound (behind_deed WriteDone (with_tables_placed f.waits f)) (place_sound f f.waits refl sound)),
   t,
 )
 finish_stops f n sound (inr (inr (inr e))) =
     let t : n.taken ≡ [] = ap (λ (x : Moment). x.taken) e in (
-      took_none f (behind_deed RemoveNote (behind_deed WriteDone (with_tables_placed f.waits f))) n (ap (λ (x : Moment). x.folder) e) t
-          (grows_same f (behind_deed RemoveNote (behind_deed WriteDone (with_tables_placed f.waits f))) (place_journal f f.waits))
+      took_none f (behind_deed RemoveNote (behind_deed WriteDone (with_tables_placed f.waits f))) n
+          (ap (λ (x : Moment). x.folder) e) t
+          (grows_same f (behind_deed RemoveNote (behind_deed WriteDone (with_tables_placed f.waits f)))
+          (place_journal f f.waits))
           (remove_sound (behind_deed WriteDone (with_tables_placed f.waits f)) (place_sound f f.waits refl sound)),
       t,
     )
@@ -307,23 +349,35 @@ idle f n sound e =
 
 abbrev folder_of : Option (List ℕ) → Bool → Bool → Bool → Bool → Tables → ℕ → Folder
 folder_of journal begun noted waits done tables saves =
-    record { journal = journal; begun = begun; noted = noted; waits = waits; done = done; tables = tables; saves = saves }
+    record {
+      journal = journal;
+      begun = begun;
+      noted = noted;
+      waits = waits;
+      done = done;
+      tables = tables;
+      saves = saves;
+    }
 
 -- over tables in which what was typed is saved the machine of a session takes nothing, nor over changed ones where it
 -- goes on; and each session keeps what it should
 by_cases : (journal : Option (List ℕ)) (begun noted waits done : Bool) (tables : Tables) (saves : ℕ) (goes_on : Bool)
     (typed : List (List ℕ)) (at_end : Bool) (n : Moment) → Sound (folder_of journal begun noted waits done tables saves)
-    → LeftBy (record { goes_on = goes_on; typed = typed; saves = at_end }) (folder_of journal begun noted waits done tables saves) n
-    → (AllByRecursion IsClean typed → Result (folder_of journal begun noted waits done tables saves) n) × (saves ≡ 1 → n.taken ≡ [])
+    → LeftBy (record { goes_on = goes_on; typed = typed; saves = at_end })
+    (folder_of journal begun noted waits done tables saves) n
+    → (AllByRecursion IsClean typed → Result (folder_of journal begun noted waits done tables saves) n)
+    × (saves ≡ 1 → n.taken ≡ [])
     × (goes_on ≡ true → are_old tables ≡ false → n.taken ≡ [])
 unfolding next_of
 by_cases journal begun true waits done tables saves goes_on typed at_end n sound h =
-    let r = finish_stops (folder_of journal begun true waits done tables saves) n sound h in (λ _. r.0, λ _. r.1, λ _ _. r.1)
+    let r = finish_stops (folder_of journal begun true waits done tables saves) n sound h in
+    (λ _. r.0, λ _. r.1, λ _ _. r.1)
 by_cases journal begun false waits true tables saves true typed at_end n sound h =
     let r = idle (folder_of journal begun false waits true tables saves) n sound h in (λ _. r.0, λ _. r.1, λ _ _. r.1)
 by_cases (Some []) true false waits false Old saves true typed at_end n sound h =
     let none : saves ≡ 0 = unsaved (folder_of (Some []) true false waits false Old saves) sound refl in (
-      λ clean. go_on_stops (folder_of (Some []) true false waits false Old saves) [] (record { goes_on = true; typed = typed; saves = at_end }) n clean refl none refl h,
+      λ clean. go_on_stops (folder_of (Some []) true false waits false Old saves) []
+          (record { goes_on = true; typed = typed; saves = at_end }) n clean refl none refl h,
       λ once. absurd cc,
       λ goes other. absurd cc,
     )
@@ -333,29 +387,38 @@ by_cases (Some []) true false waits false Other saves true typed at_end n sound 
     let r = idle (folder_of (Some []) true false waits false Other saves) n sound h in (λ _. r.0, λ _. r.1, λ _ _. r.1)
 by_cases (Some (b ∷ bs)) true false waits false Old saves true typed at_end n sound h =
     let none : saves ≡ 0 = unsaved (folder_of (Some (b ∷ bs)) true false waits false Old saves) sound refl in (
-      λ clean. go_on_stops (folder_of (Some (b ∷ bs)) true false waits false Old saves) (b ∷ bs) (record { goes_on = true; typed = typed; saves = at_end }) n clean refl none refl h,
+      λ clean. go_on_stops (folder_of (Some (b ∷ bs)) true false waits false Old saves) (b ∷ bs)
+          (record { goes_on = true; typed = typed; saves = at_end }) n clean refl none refl h,
       λ once. absurd cc,
       λ goes other. absurd cc,
     )
 by_cases (Some (b ∷ bs)) true false waits false New saves true typed at_end n sound h =
-    let r = idle (folder_of (Some (b ∷ bs)) true false waits false New saves) n sound h in (λ _. r.0, λ _. r.1, λ _ _. r.1)
+    let r = idle (folder_of (Some (b ∷ bs)) true false waits false New saves) n sound h in
+    (λ _. r.0, λ _. r.1, λ _ _. r.1)
 by_cases (Some (b ∷ bs)) true false waits false Other saves true typed at_end n sound h =
-    let r = idle (folder_of (Some (b ∷ bs)) true false waits false Other saves) n sound h in (λ _. r.0, λ _. r.1, λ _ _. r.1)
+    let r = idle (folder_of (Some (b ∷ bs)) true false waits false Other saves) n sound h in
+    (λ _. r.0, λ _. r.1, λ _ _. r.1)
 by_cases (Some []) false false waits false tables saves true typed at_end n sound h =
-    let r = idle (folder_of (Some []) false false waits false tables saves) n sound h in (λ _. r.0, λ _. r.1, λ _ _. r.1)
+    let r = idle (folder_of (Some []) false false waits false tables saves) n sound h in
+    (λ _. r.0, λ _. r.1, λ _ _. r.1)
 by_cases (Some (b ∷ bs)) false false waits false tables saves true typed at_end n sound h =
-    let r = idle (folder_of (Some (b ∷ bs)) false false waits false tables saves) n sound h in (λ _. r.0, λ _. r.1, λ _ _. r.1)
+    let r = idle (folder_of (Some (b ∷ bs)) false false waits false tables saves) n sound h in
+    (λ _. r.0, λ _. r.1, λ _ _. r.1)
 by_cases None begun false waits false tables saves true typed at_end n sound h =
     let r = idle (folder_of None begun false waits false tables saves) n sound h in (λ _. r.0, λ _. r.1, λ _ _. r.1)
 by_cases (Some (b ∷ bs)) begun false waits done tables saves false typed at_end n sound h =
-    let r = idle (folder_of (Some (b ∷ bs)) begun false waits done tables saves) n sound h in (λ _. r.0, λ _. r.1, λ _ _. r.1)
+    let r = idle (folder_of (Some (b ∷ bs)) begun false waits done tables saves) n sound h in
+    (λ _. r.0, λ _. r.1, λ _ _. r.1)
 by_cases (Some []) true false waits done tables saves false typed at_end n sound h =
     let r = idle (folder_of (Some []) true false waits done tables saves) n sound h in (λ _. r.0, λ _. r.1, λ _ _. r.1)
 by_cases (Some []) false false waits true tables saves false typed at_end n sound h =
     let r = idle (folder_of (Some []) false false waits true tables saves) n sound h in (λ _. r.0, λ _. r.1, λ _ _. r.1)
 by_cases (Some []) false false waits false tables saves false typed at_end n sound h =
-    let is : Unsaved (folder_of (Some []) false false waits false tables saves) = unbegun (folder_of (Some []) false false waits false tables saves) sound refl in (
-      λ clean. begin_stops (folder_of (Some []) false false waits false tables saves) (record { goes_on = false; typed = typed; saves = at_end }) n clean (empty_journal (folder_of (Some []) false false waits false tables saves) refl) is h,
+    let is : Unsaved (folder_of (Some []) false false waits false tables saves) =
+    unbegun (folder_of (Some []) false false waits false tables saves) sound refl in (
+      λ clean. begin_stops (folder_of (Some []) false false waits false tables saves)
+          (record { goes_on = false; typed = typed; saves = at_end }) n clean
+          (empty_journal (folder_of (Some []) false false waits false tables saves) refl) is h,
       λ once. let none : saves ≡ 0 = is.0 in absurd cc,
       λ goes other. absurd cc,
     )
@@ -364,22 +427,32 @@ by_cases None true false waits done tables saves false typed at_end n sound h =
 by_cases None false false waits true tables saves false typed at_end n sound h =
     let r = idle (folder_of None false false waits true tables saves) n sound h in (λ _. r.0, λ _. r.1, λ _ _. r.1)
 by_cases None false false waits false tables saves false typed at_end n sound h =
-    let is : Unsaved (folder_of None false false waits false tables saves) = unbegun (folder_of None false false waits false tables saves) sound refl in (
-      λ clean. begin_stops (folder_of None false false waits false tables saves) (record { goes_on = false; typed = typed; saves = at_end }) n clean (no_journal (folder_of None false false waits false tables saves) (behind_deed MakeJournal (folder_of None false false waits false tables saves)) refl) is h,
+    let is : Unsaved (folder_of None false false waits false tables saves) =
+    unbegun (folder_of None false false waits false tables saves) sound refl in (
+      λ clean. begin_stops (folder_of None false false waits false tables saves)
+          (record { goes_on = false; typed = typed; saves = at_end }) n clean
+          (no_journal (folder_of None false false waits false tables saves)
+          (behind_deed MakeJournal (folder_of None false false waits false tables saves)) refl) is h,
       λ once. let none : saves ≡ 0 = is.0 in absurd cc,
       λ goes other. absurd cc,
     )
 
 session : (s : Session) (f : Folder) (n : Moment) → Sound f → LeftBy s f n
-    → (AllByRecursion IsClean s.typed → Result f n) × (f.saves ≡ 1 → n.taken ≡ []) × (s.goes_on ≡ true → are_old f.tables ≡ false → n.taken ≡ [])
-session s f n sound h = by_cases f.journal f.begun f.noted f.waits f.done f.tables f.saves s.goes_on s.typed s.saves n sound h
+    → (AllByRecursion IsClean s.typed → Result f n) × (f.saves ≡ 1 → n.taken ≡ [])
+    × (s.goes_on ≡ true → are_old f.tables ≡ false → n.taken ≡ [])
+session s f n sound h = by_cases f.journal f.begun f.noted f.waits f.done f.tables f.saves s.goes_on s.typed s.saves n
+    sound h
 
 -- ---- visits in turn
 
-passes : (vs : List Visit) (f : Folder) (all : List (List (List ℕ))) (g : Folder) → AreClean vs → Sound f → Passed vs f all g
+passes : (vs : List Visit) (f : Folder) (all : List (List (List ℕ))) (g : Folder) → AreClean vs → Sound f
+    → Passed vs f all g
     → Grows f g × AllByRecursion (NothingLost g) all × Sound g
-passes [] f all g clean sound (none, e) =
-    (grows_same f g (ap (λ (x : Folder). x.journal) e), subst (AllByRecursion (NothingLost g)) (sym none) tt, subst Sound (sym e) sound)
+passes [] f all g clean sound (none, e) = (
+  grows_same f g (ap (λ (x : Folder). x.journal) e),
+  subst (AllByRecursion (NothingLost g)) (sym none) tt,
+  subst Sound (sym e) sound,
+)
 passes (Talks s ∷ vs) f all g (here, clean) sound (m, rest, leaves, e, passed) =
     let r = (session s f m sound leaves).0 here in
     let q = passes vs m.folder rest g clean r.sound passed in (

@@ -1,6 +1,7 @@
 -- Each step leaves the tables and indexes of a shape.
 use Rattle.std.proofs.Common.{◌≡◌, ℕ, zero, suc, Bool, true, false, List, [], ◌∷◌, Option, Some, None, refl, sym, subst, if◌then◌else◌}
 use Rattle.std.specs.Prelude.{option_and_then}
+use Rattle.std.proofs.lemmas.Option.{same_Some}
 use Rattle.xvalue.specs.declared.value.Value.{Value}
 use Rattle.dbf_file.specs.Rows.{Row}
 use Rattle.dbf_file.specs.Tables.{StructureState}
@@ -29,7 +30,6 @@ use Rattle.run_steps.specs.Faults.{fault_of}
 use Rattle.run_steps.specs.Filters.{shown_by, viewer}
 use Rattle.run_steps.specs.Run.{Next, Finished, judged, step_of, next_world, after}
 use Rattle.run_laws.proofs.Changes.{value_store, screen_store}
-use Rattle.fit_laws.proofs.Runs.{some_same}
 
 -- each change of a store keeps a shape, and each change of a table what it is of
 pub record Keeps (shape : Shape) : Type 0 where
@@ -134,5 +134,5 @@ then_keeps shape code None v k before e = absurd (cc)
 then_keeps shape code (Some u) v k before e = subst (λ (x : World). StoreHasShape shape x.env.store) (sym (leads code u v e)) (by_step shape code (instr_at code u.place) u.values u.env k (before u refl))
 
 pub kept : (shape : Shape) (code : Code) (w : World) (n : ℕ) (v : World) → Keeps shape → after code w n ≡ Some v → StoreHasShape shape w.env.store → StoreHasShape shape v.env.store
-kept shape code w zero v k e h = subst (λ (x : World). StoreHasShape shape x.env.store) (some_same w v e) h
+kept shape code w zero v k e h = subst (λ (x : World). StoreHasShape shape x.env.store) (same_Some w v e) h
 kept shape code w (suc n) v k e h = then_keeps shape code (after code w n) v k (λ u at. kept shape code w n u k at h) e

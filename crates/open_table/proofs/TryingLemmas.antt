@@ -48,15 +48,11 @@ slot_list s rows slot h = some_weaker (IsListed (IsExact s rows) slot.parts slot
     (λ x. x.pairs ≡ index_list slot.parts rows) (λ x l. l.exact.pairs ∙ ap (λ ps. index_list ps rows) l.parts)
     slot.index h.listed
 
--- what may be asked at each record may be asked at each record that a slot lists
-pub at_listed : {A B : Type 0} → A → B → ListLaw → (s : StructureState) (rows : List Row) (slot : SlotState)
-    → IsSlot s rows slot
-    → IfSome slot.index (λ x. (p : Pair) → Contains x.pairs p → A × (B × ((1 ≤ p.1) × (p.1 ≤ length rows))))
-at_listed {A} {B} a b law s rows slot h =
-    some_weaker (λ x. x.pairs ≡ index_list slot.parts rows)
-    (λ x. (p : Pair) → Contains x.pairs p → A × (B × ((1 ≤ p.1) × (p.1 ≤ length rows))))
-    (λ x e p there. (a, (b, in_list law slot.parts rows p (subst (λ ps. Contains ps p) e there))))
-    slot.index (slot_list s rows slot h)
+-- what holds of the list of the rows holds of the list of a slot
+pub at_listed : (M : List Pair → Type 0) (s : StructureState) (rows : List Row) (slot : SlotState) → IsSlot s rows slot
+    → M (index_list slot.parts rows) → IfSome slot.index (λ x. M x.pairs)
+at_listed M s rows slot h holds = some_weaker (λ x. x.pairs ≡ index_list slot.parts rows) (λ x. M x.pairs)
+    (λ x e. subst M (sym e) holds) slot.index (slot_list s rows slot h)
 
 -- of a list that is there
 pub from_some : (P N : IndexState → Type 0) (M : Type 0) (a : Option IndexState) → is_none a ≡ false → IfSome a P

@@ -6,7 +6,7 @@ ghost use Rattle.std.specs.Fn.{FnReturnsAt};
 ghost use Rattle.dbf_file.specs.Rows.{row_at};
 ghost use Rattle.shape.specs.Keys.{IsKey, key_of};
 ghost use Rattle.row_keys.specs.Lists.{index_list};
-ghost use Rattle.row_moves.specs.Orders.{record_order};
+ghost use Rattle.row_moves.specs.Orders.{MayTry, Sees, record_order};
 ghost use Rattle.row_moves.specs.Moves.{IsMove, landing_of, sought};
 ghost use Rattle.open_table.specs.Marks.{mark_at, is_fresh};
 ghost use Rattle.open_table.specs.Slots.{SlotState, IsSlot, mark_of};
@@ -59,36 +59,27 @@ fn keyed_entry<K: KeyList>(slot: &Slot<K>, table: &Table, pointer: Option<u32>) 
 }
 
 /// A move in record order.
-fn along_records<F: Fn(&Row<'_>) -> bool>(
+fn along_records<F: Fn(u32) -> bool>(
     table: &Table,
     pointer: Option<u32>,
     asked: RowMove,
     see: &F,
     budget: u64,
 ) -> Result<Landed, Spent>
-    requires callable { F.IsAlwaysCallable see.now }
     requires few { length table.now.rows ≤ 1000000 }
-    ensures { (shown : ℕ → Bool) → ShowsRows (FnReturnsAt F.Fn) see.now table.now.structure table.now.rows shown
+    requires callable { MayTry F.pre see.now (record_order (length table.now.rows)) }
+    ensures { (shown : ℕ → Bool) → Sees F.post see.now (record_order (length table.now.rows)) shown
         → IsMove (landing_of shown asked (option_map (λ n. ([], n)) pointer) (record_order (length table.now.rows)))
         budget result }
 {
     let mut order = Records {
         count: table.rows() as u32,
     };
-    let test = |n: u32| -> bool
-        requires callable { F.IsAlwaysCallable see.now }
-        requires few { length table.now.rows ≤ 1000000 }
-        requires first { 1 ≤ n }
-        requires last { n ≤ length table.now.rows }
-        ensures { (shown : ℕ → Bool)
-            → ShowsRows (FnReturnsAt F.Fn) see.entry.now table.entry.now.structure table.entry.now.rows shown
-            → result ≡ shown n }
-    { shows(see, table, n) };
-    make_move(&mut order, pointer, asked, &test, budget)
+    make_move(&mut order, pointer, asked, see, budget)
 }
 
 /// A move in the order of an index, which isn't stale.
-fn along_slot<K: KeyList, F: Fn(&Row<'_>) -> bool>(
+fn along_slot<K: KeyList, F: Fn(u32) -> bool>(
     slot: &mut Slot<K>,
     table: &Table,
     pointer: Option<u32>,
@@ -98,26 +89,15 @@ fn along_slot<K: KeyList, F: Fn(&Row<'_>) -> bool>(
 ) -> Result<Landed, Spent>
     requires exact { IsSlot table.now.structure table.now.rows slot.old }
     requires fresh { is_none slot.old.index ≡ false }
-    requires callable { F.IsAlwaysCallable see.now }
-    requires few { length table.now.rows ≤ 1000000 }
-    ensures lands { (shown : ℕ → Bool) → ShowsRows (FnReturnsAt F.Fn) see.now table.now.structure table.now.rows shown
+    requires callable { MayTry F.pre see.now (index_list slot.old.parts table.now.rows) }
+    ensures lands { (shown : ℕ → Bool) → Sees F.post see.now (index_list slot.old.parts table.now.rows) shown
         → IsMove (landing_of shown asked
         (option_map (λ n. (key_of slot.old.parts (row_at table.now.rows (n - 1)).texts, n)) pointer)
         (index_list slot.old.parts table.now.rows)) budget result }
     ensures same { slot.new ≡ slot.old }
 {
-    index_lists();
     let from = keyed_entry(slot, table, pointer);
-    let test = |n: u32| -> bool
-        requires callable { F.IsAlwaysCallable see.now }
-        requires few { length table.now.rows ≤ 1000000 }
-        requires first { 1 ≤ n }
-        requires last { n ≤ length table.now.rows }
-        ensures { (shown : ℕ → Bool)
-            → ShowsRows (FnReturnsAt F.Fn) see.entry.now table.entry.now.structure table.entry.now.rows shown
-            → result ≡ shown n }
-    { shows(see, table, n) };
-    slot.make_move(from, asked, &test, budget)
+    slot.make_move(from, asked, see, budget)
 }
 
 /// A move in an order, from a record or the end of file.
@@ -139,33 +119,6 @@ pub(crate) fn along<K: KeyList, F: Fn(&Row<'_>) -> bool>(
         (order_pairs order (indexed table.now.structure table.now.rows slots.old.items))) budget result }
     ensures same { slots.new.items ≡ slots.old.items }
 {
-    match order {
-        None => along_records(table, pointer, asked, see, budget),
-        Some(number) => {
-            let place = place_of(slots, number);
-            let slot = &mut slots[place];
-            along_slot(slot, table, pointer, asked, see, budget)
-        }
-    }
-}
-
-/// SEEK in the list of an index, which isn't stale.
-fn slot_seek<K: KeyList, F: Fn(&Row<'_>) -> bool>(
-    slot: &mut Slot<K>,
-    table: &Table,
-    text: &[u8],
-    exact: bool,
-    see: &F,
-    budget: u64,
-) -> Result<Landed, Spent>
-    requires exact { IsSlot table.now.structure table.now.rows slot.old }
-    requires fresh { is_none slot.old.index ≡ false }
-    requires callable { F.IsAlwaysCallable see.now }
-    requires few { length table.now.rows ≤ 1000000 }
-    ensures lands { (shown : ℕ → Bool) → ShowsRows (FnReturnsAt F.Fn) see.now table.now.structure table.now.rows shown
-        → IsMove (sought shown exact text.now (index_list slot.old.parts table.now.rows)) budget result }
-    ensures same { slot.new ≡ slot.old }
-{
     index_lists();
     let test = |n: u32| -> bool
         requires callable { F.IsAlwaysCallable see.now }
@@ -176,7 +129,33 @@ fn slot_seek<K: KeyList, F: Fn(&Row<'_>) -> bool>(
             → ShowsRows (FnReturnsAt F.Fn) see.entry.now table.entry.now.structure table.entry.now.rows shown
             → result ≡ shown n }
     { shows(see, table, n) };
-    slot.seek(text, exact, &test, budget)
+    match order {
+        None => along_records(table, pointer, asked, &test, budget),
+        Some(number) => {
+            let place = place_of(slots, number);
+            let slot = &mut slots[place];
+            along_slot(slot, table, pointer, asked, &test, budget)
+        }
+    }
+}
+
+/// SEEK in the list of an index, which isn't stale.
+fn slot_seek<K: KeyList, F: Fn(u32) -> bool>(
+    slot: &mut Slot<K>,
+    table: &Table,
+    text: &[u8],
+    exact: bool,
+    see: &F,
+    budget: u64,
+) -> Result<Landed, Spent>
+    requires exact { IsSlot table.now.structure table.now.rows slot.old }
+    requires fresh { is_none slot.old.index ≡ false }
+    requires callable { MayTry F.pre see.now (index_list slot.old.parts table.now.rows) }
+    ensures lands { (shown : ℕ → Bool) → Sees F.post see.now (index_list slot.old.parts table.now.rows) shown
+        → IsMove (sought shown exact text.now (index_list slot.old.parts table.now.rows)) budget result }
+    ensures same { slot.new ≡ slot.old }
+{
+    slot.seek(text, exact, see, budget)
 }
 
 /// SEEK in the index of this number.
@@ -197,7 +176,17 @@ pub(crate) fn seek<K: KeyList, F: Fn(&Row<'_>) -> bool>(
         (order_pairs (Some number) (indexed table.now.structure table.now.rows slots.old.items))) budget result }
     ensures same { slots.new.items ≡ slots.old.items }
 {
+    index_lists();
+    let test = |n: u32| -> bool
+        requires callable { F.IsAlwaysCallable see.now }
+        requires few { length table.now.rows ≤ 1000000 }
+        requires first { 1 ≤ n }
+        requires last { n ≤ length table.now.rows }
+        ensures { (shown : ℕ → Bool)
+            → ShowsRows (FnReturnsAt F.Fn) see.entry.now table.entry.now.structure table.entry.now.rows shown
+            → result ≡ shown n }
+    { shows(see, table, n) };
     let place = place_of(slots, number);
     let slot = &mut slots[place];
-    slot_seek(slot, table, text, exact, see, budget)
+    slot_seek(slot, table, text, exact, &test, budget)
 }

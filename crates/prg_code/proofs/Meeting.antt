@@ -1,13 +1,12 @@
 -- What is known where two ways meet: no more and no less than is known on both.
 use Rattle.std.proofs.Common.{◌≡◌, refl, ap, sym, ◌∙◌, Bool, true, false, ◌==◌, List, [], ◌∷◌}
-use Rattle.std.proofs.Common.{length, map, Option, Some, None, arith}
+use Rattle.std.proofs.Common.{length, map, Option, Some, None, arith, subst}
 use Rattle.std.specs.List.{zip}
 use Rattle.std.proofs.lemmas.Bool.{and_from, and_parts, cond_both}
 use Rattle.std.proofs.lemmas.Bool.Decides.{nat_tests}
 use Rattle.xvalue.specs.declared.kind.Kind.{Kind}
-use Rattle.xvalue.specs.declared.kind.Kind.TheVariants.{Number as OfNumber, Text as OfText, Date as OfDate}
-use Rattle.xvalue.specs.declared.kind.Kind.TheVariants.{Logical as OfLogical}
 use Rattle.xvalue.specs.Kinds.{same_kind}
+use Rattle.xvalue.proofs.KindLemmas.{kinds_same}
 use Rattle.code_items.specs.declared.desk.OpenArea.{OpenArea}
 use Rattle.code_items.specs.declared.desk.AreaState.{AreaState}
 use Rattle.code_items.specs.declared.desk.AreaState.TheVariants.{Closed, Open, Unsure}
@@ -48,22 +47,7 @@ area_most m a b e f =
     cond_both (area_covered (a, b)) a Unsure (λ x. area_covered (m, x) ≡ true) (λ _. e) (covered_two m a b e f)
 
 kind_two : (x y z : Kind) → same_kind x y ≡ true → same_kind x z ≡ true → same_kind y z ≡ true
-kind_two OfNumber OfNumber z e f = f
-kind_two OfNumber OfText z e f = grind (arith, e)
-kind_two OfNumber OfDate z e f = grind (arith, e)
-kind_two OfNumber OfLogical z e f = grind (arith, e)
-kind_two OfText OfText z e f = f
-kind_two OfText OfNumber z e f = grind (arith, e)
-kind_two OfText OfDate z e f = grind (arith, e)
-kind_two OfText OfLogical z e f = grind (arith, e)
-kind_two OfDate OfDate z e f = f
-kind_two OfDate OfNumber z e f = grind (arith, e)
-kind_two OfDate OfText z e f = grind (arith, e)
-kind_two OfDate OfLogical z e f = grind (arith, e)
-kind_two OfLogical OfLogical z e f = f
-kind_two OfLogical OfNumber z e f = grind (arith, e)
-kind_two OfLogical OfText z e f = grind (arith, e)
-kind_two OfLogical OfDate z e f = grind (arith, e)
+kind_two x y z e f = subst (λ k. same_kind k z ≡ true) (kinds_same x y e) f
 
 slot_first : (a b : Option Kind) → slot_covered (merged_kind (a, b), a) ≡ true
 slot_first a b = cond_both (slot_covered (a, b)) a None (λ m. slot_covered (m, a) ≡ true) (λ _. slot_self a) (λ _. refl)

@@ -60,6 +60,6 @@ kinds_decide m None (Some b) = apart _ (m.none_some b) (λ e. search rules)
 kinds_decide m (Some a) None = apart _ (m.some_none a) (λ e. search rules)
 kinds_decide m (Some a) (Some b) = (λ e. ap Some ((m.both a b).0 e), λ e. (m.both a b).1 (search rules))
 
-pub kinds_same : {E : Option Kind → Option Kind → Bool} (xs ys : List (Option Kind)) (r : Bool) → r ≡ pointwise E xs ys
-    → ComparesKinds E → IsTrue r ↔ (xs ≡ ys)
-kinds_same {E} xs ys r e m = slice_eq-Decides (kinds_decide m) xs ys r e
+pub kind_lists_same : {E : Option Kind → Option Kind → Bool} (xs ys : List (Option Kind)) (r : Bool)
+    → r ≡ pointwise E xs ys → ComparesKinds E → IsTrue r ↔ (xs ≡ ys)
+kind_lists_same {E} xs ys r e m = slice_eq-Decides (kinds_decide m) xs ys r e

@@ -73,18 +73,26 @@ splits_listed {A} u y (z ∷ ys) h (inl i) = subst (λ (z : List ℕ × A). spli
 splits_listed {A} u y (z ∷ ys) h (inr i) =
     splits_listed u y ys (and_parts (splits 4 u z.0) (splits_all u ys) h).1 i
 
-called_finds : (s : List ℕ) (x : FunctionWord) (table : List FunctionWord) → apart table ≡ true → IsOneOf x table → is_cut s x.0 ≡ true → function_of_word table s ≡ Some x.1
+called_finds : (s : List ℕ) (x : FunctionWord) (table : List FunctionWord) → apart table ≡ true → IsOneOf x table
+    → is_cut s x.0 ≡ true → function_of_word table s ≡ Some x.1
 called_finds s x [] a i c = absurd i
-called_finds s x (y ∷ ys) a (inl i) c = let d : is_cut s y.0 ≡ true = subst (λ (z : FunctionWord). is_cut s z.0 ≡ true) i c in cond_true (is_cut s y.0) (Some y.1) (function_of_word ys s) d ∙ ap (λ (z : FunctionWord). Some z.1) (sym i)
+called_finds s x (y ∷ ys) a (inl i) c =
+    let d : is_cut s y.0 ≡ true = subst (λ (z : FunctionWord). is_cut s z.0 ≡ true) i c in
+    cond_true (is_cut s y.0) (Some y.1) (function_of_word ys s) d ∙ ap (λ (z : FunctionWord). Some z.1) (sym i)
 called_finds s x (y ∷ ys) a (inr i) c =
     let t = and_parts (splits_all y.0 ys) (apart ys) a in
-    cond_false (is_cut s y.0) (Some y.1) (function_of_word ys s) (not_cut s y.0 x.0 (splits_listed y.0 x ys t.0 i) c) ∙ called_finds s x ys t.1 i c
+    cond_false (is_cut s y.0) (Some y.1) (function_of_word ys s) (not_cut s y.0 x.0 (splits_listed y.0 x ys t.0 i) c)
+    ∙ called_finds s x ys t.1 i c
 
-called_append : (s : List ℕ) (t u : List FunctionWord) → function_of_word (t ++ u) s ≡ or_function (function_of_word t s) (function_of_word u s)
+called_append : (s : List ℕ) (t u : List FunctionWord)
+    → function_of_word (t ++ u) s ≡ or_function (function_of_word t s) (function_of_word u s)
 called_append s [] u = refl
 called_append s (x ∷ t) u = elim (bool_tells (is_cut s x.0)) [
-  | inl y ↦ cond_true (is_cut s x.0) _ _ y ∙ ap (λ (o : Option Function). or_function o (function_of_word u s)) (sym (cond_true (is_cut s x.0) (Some x.1) (function_of_word t s) y))
-  | inr n ↦ cond_false (is_cut s x.0) _ _ n ∙ called_append s t u ∙ ap (λ (o : Option Function). or_function o (function_of_word u s)) (sym (cond_false (is_cut s x.0) (Some x.1) (function_of_word t s) n))
+  | inl y ↦ cond_true (is_cut s x.0) _ _ y ∙ ap (λ (o : Option Function). or_function o (function_of_word u s))
+      (sym (cond_true (is_cut s x.0) (Some x.1) (function_of_word t s) y))
+  | inr n ↦ cond_false (is_cut s x.0) _ _ n ∙ called_append s t u
+      ∙ ap (λ (o : Option Function). or_function o (function_of_word u s))
+      (sym (cond_false (is_cut s x.0) (Some x.1) (function_of_word t s) n))
 ]
 
 named_all : (s : List ℕ) → function_of_word function_words s ≡ function_named s
@@ -94,11 +102,16 @@ named_all s =
     let numbers : List FunctionWord = of_numbers ++ dates in
     let bytes : List FunctionWord = of_bytes ++ numbers in
     let parts : List FunctionWord = of_parts ++ bytes in
-    called_append s of_texts parts ∙ ap (or_function (function_of_word of_texts s)) (called_append s of_parts bytes ∙ ap (or_function (function_of_word of_parts s)) (called_append s of_bytes numbers ∙ ap (or_function (function_of_word of_bytes s)) (called_append s of_numbers dates ∙ ap (or_function (function_of_word of_numbers s)) (called_append s of_dates of_tables))))
+    called_append s of_texts parts ∙ ap (or_function (function_of_word of_texts s))
+    (called_append s of_parts bytes ∙ ap (or_function (function_of_word of_parts s))
+    (called_append s of_bytes numbers ∙ ap (or_function (function_of_word of_bytes s))
+    (called_append s of_numbers dates ∙ ap (or_function (function_of_word of_numbers s))
+    (called_append s of_dates of_tables))))
 
 all_apart : apart function_words ≡ true
 unfolding splits
 all_apart = refl
 
-pub names : (s : List ℕ) (x : FunctionWord) → IsOneOf x function_words → is_cut s x.0 ≡ true → function_named s ≡ Some x.1
+pub names : (s : List ℕ) (x : FunctionWord) → IsOneOf x function_words → is_cut s x.0 ≡ true
+    → function_named s ≡ Some x.1
 names s x i c = sym (named_all s) ∙ called_finds s x function_words all_apart i c

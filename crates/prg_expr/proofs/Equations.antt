@@ -31,7 +31,8 @@ tree_parentheses b = ap tree_of (sym (rolls-Parentheses b)) ∙ fold-roll-Expr T
 pub tree_prefixed : (p : Prefix) (b : Box Expr Global) → tree_of (Prefixed p b) ≡ tree.Prefixed p (tree_of b.value)
 tree_prefixed p b = ap tree_of (sym (rolls-Prefixed p b)) ∙ fold-roll-Expr Tree node_tree (Expr-F.Prefixed p b)
 
-pub tree_binary : (o : BinaryOperator) (a b : Box Expr Global) → tree_of (Binary o a b) ≡ tree.Binary o (tree_of a.value) (tree_of b.value)
+pub tree_binary : (o : BinaryOperator) (a b : Box Expr Global)
+    → tree_of (Binary o a b) ≡ tree.Binary o (tree_of a.value) (tree_of b.value)
 tree_binary o a b = ap tree_of (sym (rolls-Binary o a b)) ∙ fold-roll-Expr Tree node_tree (Expr-F.Binary o a b)
 
 pub tree_text : (s : List ℕ) → tree_of (Text s) ≡ tree.Text s
@@ -40,14 +41,25 @@ tree_text s = ap tree_of (sym (rolls-Text s)) ∙ fold-roll-Expr Tree node_tree 
 pub tree_name : (s : ArrayVec ℕ) → tree_of (Name s) ≡ tree.Name s.items
 tree_name s = ap tree_of (sym (rolls-Name s)) ∙ fold-roll-Expr Tree node_tree (Expr-F.Name s)
 
-pub tree_qualified : (b : Box AliasedName Global) → tree_of (Qualified b) ≡ tree.Qualified b.value.alias.items b.value.name.items
+pub tree_qualified : (b : Box AliasedName Global)
+    → tree_of (Qualified b) ≡ tree.Qualified b.value.alias.items b.value.name.items
 tree_qualified b = ap tree_of (sym (rolls-Qualified b)) ∙ fold-roll-Expr Tree node_tree (Expr-F.Qualified b)
 
 pub count_trees : (es : List Expr) → count (trees_of es) ≡ length es
 count_trees [] = refl
 count_trees (e ∷ es) = ap suc (count_trees es)
 
-pub ruleset tree_equations = (tree_logical, tree_number, tree_text, tree_name, tree_qualified, tree_call, tree_parentheses, tree_prefixed, tree_binary)
+pub ruleset tree_equations = (
+  tree_logical,
+  tree_number,
+  tree_text,
+  tree_name,
+  tree_qualified,
+  tree_call,
+  tree_parentheses,
+  tree_prefixed,
+  tree_binary,
+)
 
 -- of the call of a function, and how many arguments it has
 pub ruleset call_equations = (tree_call, count_trees)

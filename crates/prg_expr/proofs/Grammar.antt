@@ -36,7 +36,8 @@ free_less l m (word.Outside mk ∷ ws) le f = tt
 
 pub no_operator : (l : ℕ) (ws : List Word) → Free l ws → operator_at l ws ≡ None
 unfolding operator_at
-no_operator l (word.Sign o ∷ ws) f = let ne : eqb (looseness o) l ≡ false = ne_eqb (looseness o) l (λ e. omega arith) in rw ne refl
+no_operator l (word.Sign o ∷ ws) f = let ne : eqb (looseness o) l ≡ false = ne_eqb (looseness o) l (λ e. omega arith) in
+    rw ne refl
 no_operator l [] f = refl
 no_operator l (word.Number n ∷ ws) f = refl
 no_operator l (word.Text t ∷ ws) f = refl
@@ -49,7 +50,8 @@ no_operator l (word.Close ∷ ws) f = refl
 no_operator l (word.Comma ∷ ws) f = refl
 no_operator l (word.Outside mk ∷ ws) f = refl
 
-pub an_operator : (l : ℕ) (o : BinaryOperator) (ws : List Word) → looseness o ≡ l → operator_at l (word.Sign o ∷ ws) ≡ Some (o, ws)
+pub an_operator : (l : ℕ) (o : BinaryOperator) (ws : List Word) → looseness o ≡ l
+    → operator_at l (word.Sign o ∷ ws) ≡ Some (o, ws)
 unfolding operator_at
 an_operator l o ws e = let yes : eqb (looseness o) l ≡ true = eq-eqb (looseness o) l e in rw yes refl
 
@@ -96,7 +98,8 @@ picked l o = if_some o None (λ p. if prefix_level p == l then Some p else None)
 
 none_of : (l : ℕ) (o : Option Prefix) → Below l o → picked (suc l) o ≡ None
 none_of l None b = refl
-none_of l (Some p) b = let c : prefix_level p ≤ l = b in let ne : eqb (prefix_level p) (suc l) ≡ false = ne_eqb (prefix_level p) (suc l) (λ e. omega arith) in rw ne refl
+none_of l (Some p) b = let c : prefix_level p ≤ l = b in
+    let ne : eqb (prefix_level p) (suc l) ≡ false = ne_eqb (prefix_level p) (suc l) (λ e. omega arith) in rw ne refl
 
 none_at : (l : ℕ) (w : Word) → Below l (prefix_of w) → prefix_at (suc l) w ≡ None
 unfolding prefix_at
@@ -109,14 +112,16 @@ pub some_at : (l : ℕ) (w : Word) (p : Prefix) → prefix_of w ≡ Some p → p
 unfolding prefix_at
 some_at l w p i v = ap (picked l) i ∙ some_of l p v
 
-tells_of : (l : ℕ) (o : Option Prefix) → (picked l o ≡ None) ⊎ ((p : Prefix) × (picked l o ≡ Some p) × (o ≡ Some p) × (prefix_level p ≡ l))
+tells_of : (l : ℕ) (o : Option Prefix) → (picked l o ≡ None)
+    ⊎ ((p : Prefix) × (picked l o ≡ Some p) × (o ≡ Some p) × (prefix_level p ≡ l))
 tells_of l None = inl refl
 tells_of l (Some p) = elim (eqb_tells (prefix_level p) l) [
   | inl y ↦ inr (p, some_of l p y.1, refl, y.1)
   | inr n ↦ (let ne : eqb (prefix_level p) l ≡ false = n.0 in inl (rw ne refl))
 ]
 
-pub prefix_tells : (l : ℕ) (w : Word) → (prefix_at l w ≡ None) ⊎ ((p : Prefix) × (prefix_at l w ≡ Some p) × (prefix_of w ≡ Some p) × (prefix_level p ≡ l))
+pub prefix_tells : (l : ℕ) (w : Word) → (prefix_at l w ≡ None)
+    ⊎ ((p : Prefix) × (prefix_at l w ≡ Some p) × (prefix_of w ≡ Some p) × (prefix_level p ≡ l))
 unfolding prefix_at
 prefix_tells l w = tells_of l (prefix_of w)
 
@@ -211,7 +216,8 @@ pub unclosed_all : {d : ℕ} {es : Trees} {ws : List Word} → Arguments d es ws
 unclosed_all (last s) = unclosed s
 unclosed_all (more s a) = unclosed_append _ _ (unclosed s)
 
-pub called_unclosed : (d : ℕ) (r : TreeReader) (f : Function) (ws : List Word) → Unclosed ws → called_at (suc d) r f ws ≡ (arguments (suc (length ws)) r ws >>= λ x. call_read f x.0 x.1)
+pub called_unclosed : (d : ℕ) (r : TreeReader) (f : Function) (ws : List Word) → Unclosed ws
+    → called_at (suc d) r f ws ≡ (arguments (suc (length ws)) r ws >>= λ x. call_read f x.0 x.1)
 unfolding called_at
 called_unclosed d r f [] p = absurd p
 called_unclosed d r f (word.Close ∷ ws) p = absurd p
@@ -226,7 +232,8 @@ called_unclosed d r f (word.Open ∷ ws) p = refl
 called_unclosed d r f (word.Comma ∷ ws) p = refl
 called_unclosed d r f (word.Outside mk ∷ ws) p = refl
 
-pub named_free : (d : ℕ) (r : TreeReader) (s : List ℕ) (l : ℕ) (ws : List Word) → Free l ws → named d r s ws ≡ Ok (tree.Name (take 10 s), ws)
+pub named_free : (d : ℕ) (r : TreeReader) (s : List ℕ) (l : ℕ) (ws : List Word) → Free l ws
+    → named d r s ws ≡ Ok (tree.Name (take 10 s), ws)
 unfolding named
 named_free d r s l (word.Open ∷ ws) f = absurd f
 named_free d r s l (word.Arrow ∷ ws) f = absurd f

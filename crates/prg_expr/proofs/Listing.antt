@@ -27,7 +27,8 @@ front_none : (a : Listing) → with_front None a ≡ a
 front_none (Ok x) = refl
 front_none (Err f) = refl
 
-front_more : (ts : Trees) (e : Tree) (a : Listing) → with_front ts (a >>= λ y. Ok (More e y.0, y.1)) ≡ with_front (join ts (More e None)) a
+front_more : (ts : Trees) (e : Tree) (a : Listing)
+    → with_front ts (a >>= λ y. Ok (More e y.0, y.1)) ≡ with_front (join ts (More e None)) a
 front_more ts e (Ok x) = ap (λ (t : Trees). Ok (t, x.1)) (sym (join_assoc ts (More e None) x.0))
 front_more ts e (Err f) = refl
 
@@ -40,15 +41,22 @@ pub starts : (r : TreeReader) (ws : List Word) → SoFar r (arguments (suc (leng
 starts r ws = (suc (length ws), omega arith, front_none (arguments (suc (length ws)) r ws))
 
 module _ (r : TreeReader) (total : Listing) (found : Trees) (rest : List Word) where
-  step_at : (n : ℕ) (e : Tree) (after others : List Word) (b : Bool) → length rest < n → r rest ≡ Ok (e, after) → separator after ≡ Ok (b, others)
+  step_at : (n : ℕ) (e : Tree) (after others : List Word) (b : Bool) → length rest < n → r rest ≡ Ok (e, after)
+      → separator after ≡ Ok (b, others)
       → (m : ℕ) × (n ≡ suc m) × (arguments n r rest ≡ after_argument (arguments m r) e (b, others))
   unfolding arguments
   step_at zero e after others b lt h g = absurd (omega arith)
   step_at (suc m) e after others b lt h g = (m, refl, rw (h, g) refl)
 
-  pub steps : (e : Tree) (after others : List Word) (b : Bool) → SoFar r total true found rest → r rest ≡ Ok (e, after) → separator after ≡ Ok (b, others) → length others < length rest → SoFar r total b (join found (More e None)) others
-  steps e after others true so h g lt = let s = step_at so.0 e after others true so.1 h g in
-      (s.0, omega (arith, so.1, s.1), sym (front_more found e (arguments s.0 r others)) ∙ sym (ap (with_front found) s.2) ∙ so.2)
+  pub steps : (e : Tree) (after others : List Word) (b : Bool) → SoFar r total true found rest → r rest ≡ Ok (e, after)
+      → separator after ≡ Ok (b, others) → length others < length rest
+      → SoFar r total b (join found (More e None)) others
+  steps e after others true so h g lt = let s = step_at so.0 e after others true so.1 h g in (
+    s.0,
+    omega (arith, so.1, s.1),
+    sym (front_more found e (arguments s.0 r others))
+        ∙ sym (ap (with_front found) s.2) ∙ so.2,
+  )
   steps e after others false so h g lt = let s = step_at so.0 e after others false so.1 h g in
       sym so.2 ∙ ap (with_front found) s.2
 
@@ -56,7 +64,8 @@ module _ (r : TreeReader) (total : Listing) (found : Trees) (rest : List Word) w
   fails_as a b form_fault.Memory p h = tt
   fails_as a b (form_fault.Kind f) p h = sym p ∙ h
 
-  fails_at : (n : ℕ) (f : FormFault) → length rest < n → WordsFail f (r rest) → WordsFail f (with_front found (arguments n r rest))
+  fails_at : (n : ℕ) (f : FormFault) → length rest < n → WordsFail f (r rest)
+      → WordsFail f (with_front found (arguments n r rest))
   unfolding arguments
   fails_at zero f lt h = absurd (omega arith)
   fails_at (suc m) form_fault.Memory lt h = tt
@@ -65,11 +74,13 @@ module _ (r : TreeReader) (total : Listing) (found : Trees) (rest : List Word) w
   pub fails : (f : FormFault) → SoFar r total true found rest → WordsFail f (r rest) → WordsFail f total
   fails f so h = fails_as _ _ f so.2 (fails_at so.0 f so.1 h)
 
-  unparted_at : (n : ℕ) (f : FormFault) (e : Tree) (after : List Word) → length rest < n → r rest ≡ Ok (e, after) → WordsFail f (separator after) → WordsFail f (with_front found (arguments n r rest))
+  unparted_at : (n : ℕ) (f : FormFault) (e : Tree) (after : List Word) → length rest < n → r rest ≡ Ok (e, after)
+      → WordsFail f (separator after) → WordsFail f (with_front found (arguments n r rest))
   unfolding arguments
   unparted_at zero f e after lt h g = absurd (omega arith)
   unparted_at (suc m) form_fault.Memory e after lt h g = tt
   unparted_at (suc m) (form_fault.Kind f) e after lt h g = rw (h, g) refl
 
-  pub unparted : (f : FormFault) (e : Tree) (after : List Word) → SoFar r total true found rest → r rest ≡ Ok (e, after) → WordsFail f (separator after) → WordsFail f total
+  pub unparted : (f : FormFault) (e : Tree) (after : List Word) → SoFar r total true found rest → r rest ≡ Ok (e, after)
+      → WordsFail f (separator after) → WordsFail f total
   unparted f e after so h g = fails_as _ _ f so.2 (unparted_at so.0 f e after so.1 h g)

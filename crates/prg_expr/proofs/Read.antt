@@ -35,13 +35,15 @@ abbrev AllNone : List Spot → Type 0
 AllNone [] = Unit {0}
 AllNone (x ∷ xs) = (x.1 ≡ None) × AllNone xs
 
-all_none : (t : Option ParseFaultKind) (spots : List Spot) → least_of t (map spot_fault spots) ≡ None → (t ≡ None) × AllNone spots
+all_none : (t : Option ParseFaultKind) (spots : List Spot) → least_of t (map spot_fault spots) ≡ None
+    → (t ≡ None) × AllNone spots
 all_none t [] h = (h, tt)
 all_none t (x ∷ xs) h = let a = all_none (least t x.1) xs h in let b = least_none t x.1 a.0 in (b.0, (b.1, a.1))
 
 cleaned : (spots : List Spot) → AllNone spots → spots ≡ map clean (map spot_word spots)
 cleaned [] a = refl
-cleaned (x ∷ xs) a = ap (λ (f : Option ParseFaultKind). spot x.0 f ∷ xs) a.0 ∙ ap (λ (s : List Spot). clean x.0 ∷ s) (cleaned xs a.1)
+cleaned (x ∷ xs) a = ap (λ (f : Option ParseFaultKind). spot x.0 f ∷ xs) a.0 ∙ ap (λ (s : List Spot). clean x.0 ∷ s)
+    (cleaned xs a.1)
 
 words_clean : (ws : List Word) → map spot_word (map clean ws) ≡ ws
 words_clean [] = refl
@@ -52,7 +54,8 @@ faults_clean [] = refl
 faults_clean (w ∷ ws) = faults_clean ws
 
 -- a tree is told only where it was read and there is no other fault
-told_ok : (f : Option ParseFaultKind) (r : Result Tree ParseFaultKind) (e : Tree) → told_of f r ≡ Ok e → (f ≡ None) × (r ≡ Ok e)
+told_ok : (f : Option ParseFaultKind) (r : Result Tree ParseFaultKind) (e : Tree) → told_of f r ≡ Ok e
+    → (f ≡ None) × (r ≡ Ok e)
 told_ok None (Ok x) e h = (refl, h)
 told_ok (Some g) (Ok x) e h = absurd cc
 told_ok f (Err g) e h = absurd (refused_err (least f (Some g)) g e h)
@@ -79,8 +82,13 @@ read_sound text e h =
     let t = told_ok (text_fault text) (tree_of_words (map spot_word (scan text))) e h in
     let f = least_none (least_of None (map spot_fault (scan text))) (length_fault (length text)) t.0 in
     let a = all_none None (scan text) f.0 in
-    let line = subst (λ (s : List Spot). IsLine s text) (cleaned (scan text) a.1) (scan_sound text) in
-    (map spot_word (scan text), short (length text) f.1, line, parse_sound (map spot_word (scan text)) e (form_ok (map spot_word (scan text)) e t.1))
+    let line = subst (λ (s : List Spot). IsLine s text) (cleaned (scan text) a.1) (scan_sound text) in (
+      map spot_word (scan text),
+      short (length text) f.1,
+      line,
+      parse_sound (map spot_word (scan text)) e
+          (form_ok (map spot_word (scan text)) e t.1),
+    )
 
 short_on : (bytes : ℕ) → bytes ≤ 1024 → length_fault bytes ≡ None
 short_on bytes le = let n : nat_lt 1024 bytes ≡ false = le-ltb 1024 bytes le in rw n refl
@@ -100,7 +108,8 @@ unfolding read
 read_complete text e s =
     let a = scan_complete (map clean s.0) text s.2 in
     let w : map spot_word (scan text) ≡ s.0 = ap (map spot_word) a ∙ words_clean s.0 in
-    let f : least_of None (map spot_fault (scan text)) ≡ None = ap (λ (l : List Spot). least_of None (map spot_fault l)) a ∙ faults_clean s.0 in
+    let f : least_of None (map spot_fault (scan text)) ≡ None =
+    ap (λ (l : List Spot). least_of None (map spot_fault l)) a ∙ faults_clean s.0 in
     let p = form_on s.0 e (few_words text s.0 a s.1) (parse_complete s.0 e s.3) in
     let form = tree_of_words (map spot_word (scan text)) in
     ap (λ (o : Option ParseFaultKind). told_of (least o (length_fault (length text))) form) f
@@ -112,16 +121,19 @@ read_complete text e s =
 unfaulted : (r : Result Tree ParseFaultKind) (e : Tree) (f : ParseFault) → r ≡ Ok e → in_first_line r ≡ Some f → ⊥
 unfaulted r e f h t = let g : in_first_line r ≡ None = ap in_first_line h in let k = sym g ∙ t in absurd cc
 
-pub spelled : (text : List ℕ) (r : Result Expr ParseRefusal) → Answers r (read text) → IfOk r (λ e. Spells (tree_of e) text)
+pub spelled : (text : List ℕ) (r : Result Expr ParseRefusal) → Answers r (read text)
+    → IfOk r (λ e. Spells (tree_of e) text)
 spelled text (Ok e) g = read_sound text (tree_of e) g
 spelled text (Err e) g = tt
 
-pub only : (text : List ℕ) (r : Result Expr ParseRefusal) → Answers r (read text) → (e : Tree) → Spells e text → Answered e r
+pub only : (text : List ℕ) (r : Result Expr ParseRefusal) → Answers r (read text) → (e : Tree) → Spells e text
+    → Answered e r
 only text (Ok x) g e s = (let h = sym g ∙ read_complete text e s in cc)
 only text (Err refusal.Memory) g e s = tt
 only text (Err (refusal.Fault f)) g e s = unfaulted (read text) e f (read_complete text e s) g
 
-pub refused : (text : List ℕ) (r : Result Expr ParseRefusal) → Answers r (read text) → IfErr r (λ e. OnFault e ((e : Tree) → Spells e text → ⊥))
+pub refused : (text : List ℕ) (r : Result Expr ParseRefusal) → Answers r (read text)
+    → IfErr r (λ e. OnFault e ((e : Tree) → Spells e text → ⊥))
 refused text (Ok x) g = tt
 refused text (Err refusal.Memory) g = tt
 refused text (Err (refusal.Fault f)) g = λ e s. unfaulted (read text) e f (read_complete text e s) g

@@ -23,7 +23,8 @@ use Rattle.prg_expr.specs.Reading.{called_at, qualified_at, named, operand, stag
 use Rattle.prg_expr.specs.Reading.{all_read, parse}
 use Rattle.prg_expr.proofs.Grammar.{prefix_tells}
 
-pub bind_ok : {A B : Type 0} → (r : Result A ParseFaultKind) (f : A → Result B ParseFaultKind) (y : B) → (r >>= f) ≡ Ok y → (x : A) × (r ≡ Ok x) × (f x ≡ Ok y)
+pub bind_ok : {A B : Type 0} → (r : Result A ParseFaultKind) (f : A → Result B ParseFaultKind) (y : B)
+    → (r >>= f) ≡ Ok y → (x : A) × (r ≡ Ok x) × (f x ≡ Ok y)
 bind_ok (Ok x) f y h = (x, refl, h)
 bind_ok (Err e) f y h = absurd cc
 
@@ -63,10 +64,12 @@ shorter s = record { at = λ ws x h. takes_shorter (s.at ws x h) }
 up : {d l : ℕ} {ws : List Word} {x : Tree × List Word} → Takes d l ws x → Takes d (suc l) ws x
 up t = record { front = t.front; stands = looser t.stands; is = t.is }
 
-regroup : (whole_tree seen ws : List Word) (w : Word) (after front rest : List Word) → whole_tree ≡ seen ++ ws → ws ≡ w ∷ after → after ≡ front ++ rest → whole_tree ≡ (seen ++ w ∷ front) ++ rest
+regroup : (whole_tree seen ws : List Word) (w : Word) (after front rest : List Word) → whole_tree ≡ seen ++ ws
+    → ws ≡ w ∷ after → after ≡ front ++ rest → whole_tree ≡ (seen ++ w ∷ front) ++ rest
 regroup whole_tree seen ws w after front rest p q r = rw (p, q, r) (simp append_assoc)
 
-closed : (ws front r rest : List Word) → ws ≡ front ++ r → r ≡ word.Close ∷ rest → word.Open ∷ ws ≡ (word.Open ∷ (front ++ word.Close ∷ [])) ++ rest
+closed : (ws front r rest : List Word) → ws ≡ front ++ r → r ≡ word.Close ∷ rest
+    → word.Open ∷ ws ≡ (word.Open ∷ (front ++ word.Close ∷ [])) ++ rest
 closed ws front r rest p q = rw (p, q) (simp append_assoc)
 
 -- the operator at the front
@@ -75,9 +78,17 @@ pub record HasOperator (l : ℕ) (ws : List Word) (o : BinaryOperator) (rest : L
   pub level : looseness o ≡ l
   pub is : ws ≡ word.Sign o ∷ rest
 
-pub operator_tells : (l : ℕ) (ws : List Word) → (operator_at l ws ≡ None) ⊎ ((o : BinaryOperator) × (rest : List Word) × HasOperator l ws o rest)
+pub operator_tells : (l : ℕ) (ws : List Word)
+    → (operator_at l ws ≡ None) ⊎ ((o : BinaryOperator) × (rest : List Word) × HasOperator l ws o rest)
 unfolding operator_at
-operator_tells l (word.Sign o ∷ ws) = elim (eqb_tells (looseness o) l) [ inl p ↦ (let y : eqb (looseness o) l ≡ true = p.0 in inr (o, ws, record { read = rw y refl; level = p.1; is = refl })) | inr p ↦ (let n : eqb (looseness o) l ≡ false = p.0 in inl (rw n refl)) ]
+operator_tells l (word.Sign o ∷ ws) =
+    elim (eqb_tells (looseness o) l) [
+      | inl p ↦
+          (let y : eqb (looseness o) l ≡ true = p.0 in
+          inr (o, ws, record { read = rw y refl; level = p.1; is = refl }))
+      | inr p ↦
+          (let n : eqb (looseness o) l ≡ false = p.0 in inl (rw n refl))
+    ]
 operator_tells l [] = inl refl
 operator_tells l (word.Number n ∷ ws) = inl refl
 operator_tells l (word.Text t ∷ ws) = inl refl
@@ -94,20 +105,26 @@ abbrev ok : Tree × List Word → TreeRead
 ok x = Ok x
 
 -- a tree that is read whole
-taken : {d l : ℕ} (e : Tree) (front rest ws : List Word) (x : Tree × List Word) → Stands d l e front → ws ≡ front ++ rest → ok (e, rest) ≡ Ok x → Takes d l ws x
+taken : {d l : ℕ} (e : Tree) (front rest ws : List Word) (x : Tree × List Word) → Stands d l e front
+    → ws ≡ front ++ rest → ok (e, rest) ≡ Ok x → Takes d l ws x
 taken {d} {l} e front rest ws x s h eq =
     let p : (e, rest) ≡ x = cc in
     subst (λ x. Takes d l ws x) p (record { front = front; stands = s; is = h })
 
 module _ (d l : ℕ) (next : TreeReader) (sound : IsSound d l next) where
-  turns_sound : suc l ≢ 4 → (n : ℕ) (left : Tree) (seen ws whole_tree : List Word) (x : Tree × List Word) → Stands d (suc l) left seen → whole_tree ≡ seen ++ ws → turns n next (suc l) left ws ≡ Ok x → Takes d (suc l) whole_tree x
+  turns_sound : suc l ≢ 4 → (n : ℕ) (left : Tree) (seen ws whole_tree : List Word) (x : Tree × List Word)
+      → Stands d (suc l) left seen → whole_tree ≡ seen ++ ws → turns n next (suc l) left ws ≡ Ok x
+      → Takes d (suc l) whole_tree x
   unfolding turns
   turns_sound ne zero left seen ws whole_tree x s w h = absurd cc
   turns_sound ne (suc n) left seen ws whole_tree x s w h = elim (operator_tells (suc l) ws) [
     | inl none ↦ taken left seen ws whole_tree x s w (sym (rw none refl) ∙ h)
-    | inr p ↦ (let op = p.2 in let b = bind_ok (next p.1) (λ y. turns n next (suc l) (tree.Binary p.0 left y.0) y.1) x (sym (rw op.read refl) ∙ h) in
+    | inr p ↦ (let op = p.2 in let b = bind_ok (next p.1) (λ y. turns n next (suc l) (tree.Binary p.0 left y.0) y.1) x
+        (sym (rw op.read refl) ∙ h) in
         let t = sound.at p.1 b.0 b.1 in
-        turns_sound ne n (tree.Binary p.0 left b.0.0) (seen ++ word.Sign p.0 ∷ t.front) b.0.1 whole_tree x (grouped op.level ne s t.stands) (regroup whole_tree seen ws (word.Sign p.0) p.1 t.front b.0.1 w op.is t.is) b.2)
+        turns_sound ne n (tree.Binary p.0 left b.0.0) (seen ++ word.Sign p.0 ∷ t.front) b.0.1 whole_tree x
+        (grouped op.level ne s t.stands) (regroup whole_tree seen ws (word.Sign p.0) p.1 t.front b.0.1 w op.is t.is)
+        b.2)
   ]
 
   chain_sound : suc l ≢ 4 → IsSound d (suc l) (chain next (suc l))
@@ -122,27 +139,35 @@ module _ (d : ℕ) (next : TreeReader) where
   comparison_sound : IsSound d 3 next → IsSound d 4 (comparison_read next)
   unfolding comparison_read
   comparison_sound sound = record {
-    at = λ ws x h. let b = bind_ok (next ws) (λ x. if_some (operator_at 4 x.1) (Ok x) (λ o. next o.1 >>= λ y. Ok (tree.Binary o.0 x.0 y.0, y.1))) x h in
+    at = λ ws x h. let b = bind_ok (next ws)
+        (λ x. if_some (operator_at 4 x.1) (Ok x) (λ o. next o.1 >>= λ y. Ok (tree.Binary o.0 x.0 y.0, y.1))) x h in
         let t = sound.at ws b.0 b.1 in
         elim (operator_tells 4 b.0.1) [
           | inl none ↦ taken b.0.0 t.front b.0.1 ws x (looser t.stands) t.is (sym (rw none refl) ∙ b.2)
-          | inr p ↦ (let op = p.2 in let c = bind_ok (next p.1) (λ y. Ok (tree.Binary p.0 b.0.0 y.0, y.1)) x (sym (rw op.read refl) ∙ b.2) in
+          | inr p ↦ (let op = p.2 in let c = bind_ok (next p.1) (λ y. Ok (tree.Binary p.0 b.0.0 y.0, y.1)) x
+              (sym (rw op.read refl) ∙ b.2) in
               let u = sound.at p.1 c.0 c.1 in
-              taken (tree.Binary p.0 b.0.0 c.0.0) (t.front ++ word.Sign p.0 ∷ u.front) c.0.1 ws x (compared op.level t.stands u.stands) (regroup ws t.front b.0.1 (word.Sign p.0) p.1 u.front c.0.1 t.is op.is u.is) c.2)
+              taken (tree.Binary p.0 b.0.0 c.0.0) (t.front ++ word.Sign p.0 ∷ u.front) c.0.1 ws x
+              (compared op.level t.stands u.stands)
+              (regroup ws t.front b.0.1 (word.Sign p.0) p.1 u.front c.0.1 t.is op.is u.is) c.2)
         ];
   }
 
-  prefixes_take : (l : ℕ) → IsSound d l next → (ws : List Word) (x : Tree × List Word) → prefixes next (suc l) ws ≡ Ok x → Takes d (suc l) ws x
+  prefixes_take : (l : ℕ) → IsSound d l next → (ws : List Word) (x : Tree × List Word) → prefixes next (suc l) ws ≡ Ok x
+      → Takes d (suc l) ws x
   unfolding prefixes
   prefixes_take l sound [] x h = up (sound.at [] x h)
   prefixes_take l sound (w ∷ ws) x h = elim (prefix_tells (suc l) w) [
     | inl none ↦ up (sound.at (w ∷ ws) x (sym (rw none refl) ∙ h))
-    | inr p ↦ (let b = bind_ok (prefixes next (suc l) ws) (λ y. Ok (tree.Prefixed p.0 y.0, y.1)) x (sym (rw p.1 refl) ∙ h) in
+    | inr p ↦ (let b = bind_ok (prefixes next (suc l) ws) (λ y. Ok (tree.Prefixed p.0 y.0, y.1)) x
+        (sym (rw p.1 refl) ∙ h) in
         let t = prefixes_take l sound ws b.0 b.1 in
-        taken (tree.Prefixed p.0 b.0.0) (w ∷ t.front) b.0.1 (w ∷ ws) x (prefixed p.2 p.3 t.stands) (ap (λ ws. w ∷ ws) t.is) b.2)
+        taken (tree.Prefixed p.0 b.0.0) (w ∷ t.front) b.0.1 (w ∷ ws) x (prefixed p.2 p.3 t.stands)
+        (ap (λ ws. w ∷ ws) t.is) b.2)
   ]
 
-close_ok : (e : Tree) (ws : List Word) (x : Tree × List Word) → parenthesis_closed e ws ≡ Ok x → (rest : List Word) × (ws ≡ word.Close ∷ rest) × (ok (tree.Parentheses e, rest) ≡ Ok x)
+close_ok : (e : Tree) (ws : List Word) (x : Tree × List Word) → parenthesis_closed e ws ≡ Ok x
+    → (rest : List Word) × (ws ≡ word.Close ∷ rest) × (ok (tree.Parentheses e, rest) ≡ Ok x)
 unfolding parenthesis_closed
 close_ok e (word.Close ∷ ws) x h = (ws, refl, h)
 close_ok e [] x h = absurd cc
@@ -161,13 +186,16 @@ close_ok e (word.Outside mk ∷ ws) x h = absurd cc
 pub record IsInside (d : ℕ) (r : TreeReader) : Type 0 where
   pub at : (ws : List Word) (x : Tree × List Word) → r ws ≡ Ok x → (k : ℕ) × (d ≡ suc k) × Takes k 7 ws x
 
-in_parentheses : (d : ℕ) (r : TreeReader) → IsInside d r → (ws : List Word) (y x : Tree × List Word) → r ws ≡ Ok y → parenthesis_closed y.0 y.1 ≡ Ok x → Takes d 0 (word.Open ∷ ws) x
+in_parentheses : (d : ℕ) (r : TreeReader) → IsInside d r → (ws : List Word) (y x : Tree × List Word) → r ws ≡ Ok y
+    → parenthesis_closed y.0 y.1 ≡ Ok x → Takes d 0 (word.Open ∷ ws) x
 in_parentheses d r ins ws y x h g =
     let i = ins.at ws y h in
     let t = i.2 in
     let c = close_ok y.0 y.1 x g in
-    let s : Stands d 0 (tree.Parentheses y.0) (word.Open ∷ (t.front ++ word.Close ∷ [])) = rw i.1 (parentheses t.stands) in
-    taken (tree.Parentheses y.0) (word.Open ∷ (t.front ++ word.Close ∷ [])) c.0 (word.Open ∷ ws) x s (closed ws t.front y.1 c.0 t.is c.1) c.2
+    let s : Stands d 0 (tree.Parentheses y.0) (word.Open ∷ (t.front ++ word.Close ∷ [])) =
+    rw i.1 (parentheses t.stands) in
+    taken (tree.Parentheses y.0) (word.Open ∷ (t.front ++ word.Close ∷ [])) c.0 (word.Open ∷ ws) x s
+    (closed ws t.front y.1 c.0 t.is c.1) c.2
 
 abbrev flag : Bool → List Word → Bool × List Word
 flag b ws = (b, ws)
@@ -184,11 +212,14 @@ all_ok' x = Ok x
 all_same : (x y : Trees × List Word) → all_ok' x ≡ Ok y → x ≡ y
 all_same x y h = cc
 
-regroup_all : (ws front r after second rest : List Word) → ws ≡ front ++ r → r ≡ word.Comma ∷ after → after ≡ second ++ word.Close ∷ rest → ws ≡ (front ++ word.Comma ∷ second) ++ word.Close ∷ rest
+regroup_all : (ws front r after second rest : List Word) → ws ≡ front ++ r → r ≡ word.Comma ∷ after
+    → after ≡ second ++ word.Close ∷ rest → ws ≡ (front ++ word.Comma ∷ second) ++ word.Close ∷ rest
 regroup_all ws front r after second rest p q s = rw (p, q, s) (simp append_assoc)
 
 -- what separator has found
-separator_tells : (ws : List Word) (s : Bool × List Word) → separator ws ≡ Ok s → ((rest : List Word) × (ws ≡ word.Comma ∷ rest) × (flag true rest ≡ s)) ⊎ ((rest : List Word) × (ws ≡ word.Close ∷ rest) × (flag false rest ≡ s))
+separator_tells : (ws : List Word) (s : Bool × List Word) → separator ws ≡ Ok s
+    → ((rest : List Word) × (ws ≡ word.Comma ∷ rest) × (flag true rest ≡ s))
+    ⊎ ((rest : List Word) × (ws ≡ word.Close ∷ rest) × (flag false rest ≡ s))
 unfolding separator
 separator_tells (word.Comma ∷ ws) s h = inl (ws, refl, flag_same _ _ h)
 separator_tells (word.Close ∷ ws) s h = inr (ws, refl, flag_same _ _ h)
@@ -211,23 +242,33 @@ pub record TakesAll (d : ℕ) (ws : List Word) (x : Trees × List Word) : Type 0
   pub stands : Arguments depth x.0 front
   pub is : ws ≡ front ++ word.Close ∷ x.1
 
-taken_all : {d k : ℕ} (es : Trees) (front rest ws : List Word) (x : Trees × List Word) → d ≡ suc k → Arguments k es front → ws ≡ front ++ word.Close ∷ rest → all_ok' (es, rest) ≡ Ok x → TakesAll d ws x
-taken_all {d} {k} es front rest ws x e s i h = subst (λ x. TakesAll d ws x) (all_same (es, rest) x h) (record { depth = k; deeper = e; front = front; stands = s; is = i })
+taken_all : {d k : ℕ} (es : Trees) (front rest ws : List Word) (x : Trees × List Word) → d ≡ suc k
+    → Arguments k es front → ws ≡ front ++ word.Close ∷ rest → all_ok' (es, rest) ≡ Ok x → TakesAll d ws x
+taken_all {d} {k} es front rest ws x e s i h =
+    subst (λ x. TakesAll d ws x) (all_same (es, rest) x h)
+    (record { depth = k; deeper = e; front = front; stands = s; is = i })
 
-arguments_on : (n d : ℕ) (r : TreeReader) → ((ws : List Word) (x : Trees × List Word) → arguments n r ws ≡ Ok x → TakesAll d ws x) → (ws : List Word) (y : Tree × List Word) (s : Bool × List Word) (x : Trees × List Word)
-    → (k : ℕ) → d ≡ suc k → Takes k 7 ws y → separator y.1 ≡ Ok s → after_argument (arguments n r) y.0 s ≡ Ok x → TakesAll d ws x
+arguments_on : (n d : ℕ) (r : TreeReader)
+    → ((ws : List Word) (x : Trees × List Word) → arguments n r ws ≡ Ok x → TakesAll d ws x)
+    → (ws : List Word) (y : Tree × List Word) (s : Bool × List Word) (x : Trees × List Word)
+    → (k : ℕ) → d ≡ suc k → Takes k 7 ws y → separator y.1 ≡ Ok s → after_argument (arguments n r) y.0 s ≡ Ok x
+    → TakesAll d ws x
 arguments_on n d r again ws y s x k e t h g = elim (separator_tells y.1 s h) [
-  | inl p ↦ (let g' : after_argument (arguments n r) y.0 (flag true p.0) ≡ Ok x = ap (after_argument (arguments n r) y.0) p.2 ∙ g in
+  | inl p ↦ (let g' : after_argument (arguments n r) y.0 (flag true p.0) ≡ Ok x = ap
+      (after_argument (arguments n r) y.0) p.2 ∙ g in
       let b = bind_ok (arguments n r p.0) (λ z. Ok (tree.More y.0 z.0, z.1)) x g' in
       let u = again p.0 b.0 b.1 in
       let same : u.depth ≡ k = omega (arith, u.deeper) in
-      taken_all (tree.More y.0 b.0.0) (t.front ++ word.Comma ∷ u.front) b.0.1 ws x e (more t.stands (subst (λ k. Arguments k b.0.0 u.front) same u.stands))
+      taken_all (tree.More y.0 b.0.0) (t.front ++ word.Comma ∷ u.front) b.0.1 ws x e
+      (more t.stands (subst (λ k. Arguments k b.0.0 u.front) same u.stands))
       (regroup_all ws t.front y.1 p.0 u.front b.0.1 t.is p.1 u.is) b.2)
-  | inr p ↦ (let g' : after_argument (arguments n r) y.0 (flag false p.0) ≡ Ok x = ap (after_argument (arguments n r) y.0) p.2 ∙ g in
+  | inr p ↦ (let g' : after_argument (arguments n r) y.0 (flag false p.0) ≡ Ok x = ap
+      (after_argument (arguments n r) y.0) p.2 ∙ g in
       taken_all (tree.More y.0 tree.None) t.front p.0 ws x e (last t.stands) (t.is ∙ ap (λ w. t.front ++ w) p.1) g')
 ]
 
-arguments_take : (n d : ℕ) (r : TreeReader) → IsInside d r → (ws : List Word) (x : Trees × List Word) → arguments n r ws ≡ Ok x → TakesAll d ws x
+arguments_take : (n d : ℕ) (r : TreeReader) → IsInside d r → (ws : List Word) (x : Trees × List Word)
+    → arguments n r ws ≡ Ok x → TakesAll d ws x
 unfolding arguments
 arguments_take zero d r ins ws x h = absurd cc
 arguments_take (suc n) d r ins ws x h =
@@ -245,27 +286,36 @@ option_tells None = inl refl
 option_tells (Some x) = inr (x, refl)
 
 -- a call that is read has as many arguments as its function takes
-call_ok : (f : Function) (es : Trees) (ws : List Word) (x : Tree × List Word) → call_read f es ws ≡ Ok x → (takes_so_many f (count es) ≡ true) × (ok (tree.Call f es, ws) ≡ Ok x)
+call_ok : (f : Function) (es : Trees) (ws : List Word) (x : Tree × List Word) → call_read f es ws ≡ Ok x
+    → (takes_so_many f (count es) ≡ true) × (ok (tree.Call f es, ws) ≡ Ok x)
 unfolding call_read
 call_ok f es ws x h = elim (bool_tells (takes_so_many f (count es))) [
   | inl y ↦ (y, sym (rw y refl) ∙ h)
   | inr n ↦ (let g : call_read f es ws ≡ Err fault.Expression = rw n refl in absurd (let k = sym g ∙ h in cc))
 ]
 
-call_takes : (d : ℕ) (r : TreeReader) → IsInside d r → (s : List ℕ) (f : Function) → function_named s ≡ Some f → (ws : List Word) (x : Tree × List Word) → (arguments (suc (length ws)) r ws >>= λ x. call_read f x.0 x.1) ≡ Ok x → Takes d 0 (word.Name s ∷ word.Open ∷ ws) x
+call_takes : (d : ℕ) (r : TreeReader) → IsInside d r → (s : List ℕ) (f : Function) → function_named s ≡ Some f
+    → (ws : List Word) (x : Tree × List Word) → (arguments (suc (length ws)) r ws >>= λ x. call_read f x.0 x.1) ≡ Ok x
+    → Takes d 0 (word.Name s ∷ word.Open ∷ ws) x
 call_takes d r ins s f i ws x h =
     let b = bind_ok (arguments (suc (length ws)) r ws) (λ x. call_read f x.0 x.1) x h in
     let t = arguments_take (suc (length ws)) d r ins ws b.0 b.1 in
     let c = call_ok f b.0.0 b.0.1 x b.2 in
-    let st : Stands d 0 (tree.Call f b.0.0) (word.Name s ∷ word.Open ∷ (t.front ++ word.Close ∷ [])) = subst (λ d. Stands d 0 (tree.Call f b.0.0) (word.Name s ∷ word.Open ∷ (t.front ++ word.Close ∷ []))) (sym t.deeper) (called i c.0 t.stands) in
-    taken (tree.Call f b.0.0) (word.Name s ∷ word.Open ∷ (t.front ++ word.Close ∷ [])) b.0.1 (word.Name s ∷ word.Open ∷ ws) x st
+    let st : Stands d 0 (tree.Call f b.0.0) (word.Name s ∷ word.Open ∷ (t.front ++ word.Close ∷ [])) =
+    subst (λ d. Stands d 0 (tree.Call f b.0.0) (word.Name s ∷ word.Open ∷ (t.front ++ word.Close ∷ [])))
+    (sym t.deeper) (called i c.0 t.stands) in
+    taken (tree.Call f b.0.0) (word.Name s ∷ word.Open ∷ (t.front ++ word.Close ∷ [])) b.0.1
+    (word.Name s ∷ word.Open ∷ ws) x st
     (ap (λ ws. word.Name s ∷ word.Open ∷ ws) (t.is ∙ sym (append_assoc t.front (word.Close ∷ []) b.0.1))) c.1
 
-bare_takes : (d : ℕ) (s : List ℕ) (f : Function) → function_named s ≡ Some f → (ws : List Word) (x : Tree × List Word) → call_read f tree.None ws ≡ Ok x → Takes (suc d) 0 (word.Name s ∷ word.Open ∷ word.Close ∷ ws) x
+bare_takes : (d : ℕ) (s : List ℕ) (f : Function) → function_named s ≡ Some f → (ws : List Word) (x : Tree × List Word)
+    → call_read f tree.None ws ≡ Ok x → Takes (suc d) 0 (word.Name s ∷ word.Open ∷ word.Close ∷ ws) x
 bare_takes d s f i ws x h = let c = call_ok f tree.None ws x h in
-    taken (tree.Call f tree.None) (word.Name s ∷ word.Open ∷ word.Close ∷ []) ws (word.Name s ∷ word.Open ∷ word.Close ∷ ws) x (called_bare i c.0) refl c.1
+    taken (tree.Call f tree.None) (word.Name s ∷ word.Open ∷ word.Close ∷ []) ws
+    (word.Name s ∷ word.Open ∷ word.Close ∷ ws) x (called_bare i c.0) refl c.1
 
-called_takes : (d : ℕ) (r : TreeReader) → IsInside d r → (s : List ℕ) (f : Function) → function_named s ≡ Some f → (ws : List Word) (x : Tree × List Word) → called_at d r f ws ≡ Ok x → Takes d 0 (word.Name s ∷ word.Open ∷ ws) x
+called_takes : (d : ℕ) (r : TreeReader) → IsInside d r → (s : List ℕ) (f : Function) → function_named s ≡ Some f
+    → (ws : List Word) (x : Tree × List Word) → called_at d r f ws ≡ Ok x → Takes d 0 (word.Name s ∷ word.Open ∷ ws) x
 unfolding called_at
 called_takes zero r ins s f i ws x h = absurd cc
 called_takes (suc d) r ins s f i (word.Close ∷ ws) x h = bare_takes d s f i ws x h
@@ -281,9 +331,11 @@ called_takes (suc d) r ins s f i (word.Open ∷ ws) x h = call_takes (suc d) r i
 called_takes (suc d) r ins s f i (word.Comma ∷ ws) x h = call_takes (suc d) r ins s f i (word.Comma ∷ ws) x h
 called_takes (suc d) r ins s f i (word.Outside mk ∷ ws) x h = call_takes (suc d) r ins s f i (word.Outside mk ∷ ws) x h
 
-qualified_takes : (d : ℕ) (a : List ℕ) (ws : List Word) (x : Tree × List Word) → qualified_at a ws ≡ Ok x → Takes d 0 (word.Name a ∷ word.Arrow ∷ ws) x
+qualified_takes : (d : ℕ) (a : List ℕ) (ws : List Word) (x : Tree × List Word) → qualified_at a ws ≡ Ok x
+    → Takes d 0 (word.Name a ∷ word.Arrow ∷ ws) x
 unfolding qualified_at
-qualified_takes d a (word.Name t ∷ ws) x h = taken (tree.Qualified (take 10 a) (take 10 t)) (word.Name a ∷ word.Arrow ∷ word.Name t ∷ []) ws _ x qualified refl h
+qualified_takes d a (word.Name t ∷ ws) x h =
+    taken (tree.Qualified (take 10 a) (take 10 t)) (word.Name a ∷ word.Arrow ∷ word.Name t ∷ []) ws _ x qualified refl h
 qualified_takes d a [] x h = absurd cc
 qualified_takes d a (word.Number n ∷ ws) x h = absurd cc
 qualified_takes d a (word.Text t ∷ ws) x h = absurd cc
@@ -296,7 +348,8 @@ qualified_takes d a (word.Close ∷ ws) x h = absurd cc
 qualified_takes d a (word.Comma ∷ ws) x h = absurd cc
 qualified_takes d a (word.Outside mk ∷ ws) x h = absurd cc
 
-named_takes : (d : ℕ) (r : TreeReader) → IsInside d r → (s : List ℕ) (ws : List Word) (x : Tree × List Word) → named d r s ws ≡ Ok x → Takes d 0 (word.Name s ∷ ws) x
+named_takes : (d : ℕ) (r : TreeReader) → IsInside d r → (s : List ℕ) (ws : List Word) (x : Tree × List Word)
+    → named d r s ws ≡ Ok x → Takes d 0 (word.Name s ∷ ws) x
 unfolding named
 named_takes d r ins s (word.Open ∷ ws) x h = elim (option_tells (function_named s)) [
   | inl none ↦ absurd (let g : named d r s (word.Open ∷ ws) ≡ Err fault.Expression = rw none refl in
@@ -305,23 +358,34 @@ named_takes d r ins s (word.Open ∷ ws) x h = elim (option_tells (function_name
 ]
 named_takes d r ins s (word.Arrow ∷ ws) x h = qualified_takes d s ws x h
 named_takes d r ins s [] x h = taken (tree.Name (take 10 s)) (word.Name s ∷ []) [] _ x name refl h
-named_takes d r ins s (word.Number n ∷ ws) x h = taken (tree.Name (take 10 s)) (word.Name s ∷ []) (word.Number n ∷ ws) _ x name refl h
-named_takes d r ins s (word.Text t ∷ ws) x h = taken (tree.Name (take 10 s)) (word.Name s ∷ []) (word.Text t ∷ ws) _ x name refl h
-named_takes d r ins s (word.Logical b ∷ ws) x h = taken (tree.Name (take 10 s)) (word.Name s ∷ []) (word.Logical b ∷ ws) _ x name refl h
-named_takes d r ins s (word.Name t ∷ ws) x h = taken (tree.Name (take 10 s)) (word.Name s ∷ []) (word.Name t ∷ ws) _ x name refl h
-named_takes d r ins s (word.Not ∷ ws) x h = taken (tree.Name (take 10 s)) (word.Name s ∷ []) (word.Not ∷ ws) _ x name refl h
-named_takes d r ins s (word.Sign o ∷ ws) x h = taken (tree.Name (take 10 s)) (word.Name s ∷ []) (word.Sign o ∷ ws) _ x name refl h
-named_takes d r ins s (word.Close ∷ ws) x h = taken (tree.Name (take 10 s)) (word.Name s ∷ []) (word.Close ∷ ws) _ x name refl h
-named_takes d r ins s (word.Comma ∷ ws) x h = taken (tree.Name (take 10 s)) (word.Name s ∷ []) (word.Comma ∷ ws) _ x name refl h
-named_takes d r ins s (word.Outside mk ∷ ws) x h = taken (tree.Name (take 10 s)) (word.Name s ∷ []) (word.Outside mk ∷ ws) _ x name refl h
+named_takes d r ins s (word.Number n ∷ ws) x h =
+    taken (tree.Name (take 10 s)) (word.Name s ∷ []) (word.Number n ∷ ws) _ x name refl h
+named_takes d r ins s (word.Text t ∷ ws) x h =
+    taken (tree.Name (take 10 s)) (word.Name s ∷ []) (word.Text t ∷ ws) _ x name refl h
+named_takes d r ins s (word.Logical b ∷ ws) x h =
+    taken (tree.Name (take 10 s)) (word.Name s ∷ []) (word.Logical b ∷ ws) _ x name refl h
+named_takes d r ins s (word.Name t ∷ ws) x h =
+    taken (tree.Name (take 10 s)) (word.Name s ∷ []) (word.Name t ∷ ws) _ x name refl h
+named_takes d r ins s (word.Not ∷ ws) x h =
+    taken (tree.Name (take 10 s)) (word.Name s ∷ []) (word.Not ∷ ws) _ x name refl h
+named_takes d r ins s (word.Sign o ∷ ws) x h =
+    taken (tree.Name (take 10 s)) (word.Name s ∷ []) (word.Sign o ∷ ws) _ x name refl h
+named_takes d r ins s (word.Close ∷ ws) x h =
+    taken (tree.Name (take 10 s)) (word.Name s ∷ []) (word.Close ∷ ws) _ x name refl h
+named_takes d r ins s (word.Comma ∷ ws) x h =
+    taken (tree.Name (take 10 s)) (word.Name s ∷ []) (word.Comma ∷ ws) _ x name refl h
+named_takes d r ins s (word.Outside mk ∷ ws) x h =
+    taken (tree.Name (take 10 s)) (word.Name s ∷ []) (word.Outside mk ∷ ws) _ x name refl h
 
-operand_takes : (d : ℕ) (r : TreeReader) → IsInside d r → (ws : List Word) (x : Tree × List Word) → operand d r ws ≡ Ok x → Takes d 0 ws x
+operand_takes : (d : ℕ) (r : TreeReader) → IsInside d r → (ws : List Word) (x : Tree × List Word)
+    → operand d r ws ≡ Ok x → Takes d 0 ws x
 unfolding operand
 operand_takes d r ins (word.Logical b ∷ ws) x h = taken (tree.Logical b) (word.Logical b ∷ []) ws _ x logical refl h
 operand_takes d r ins (word.Number n ∷ ws) x h = taken (tree.Number n) (word.Number n ∷ []) ws _ x number refl h
 operand_takes d r ins (word.Text s ∷ ws) x h = taken (tree.Text s) (word.Text s ∷ []) ws _ x text refl h
 operand_takes d r ins (word.Name s ∷ ws) x h = named_takes d r ins s ws x h
-operand_takes d r ins (word.Open ∷ ws) x h = let b = bind_ok (r ws) (λ x. parenthesis_closed x.0 x.1) x h in in_parentheses d r ins ws b.0 x b.1 b.2
+operand_takes d r ins (word.Open ∷ ws) x h = let b = bind_ok (r ws) (λ x. parenthesis_closed x.0 x.1) x h in
+    in_parentheses d r ins ws b.0 x b.1 b.2
 operand_takes d r ins [] x h = absurd cc
 operand_takes d r ins (word.Not ∷ ws) x h = absurd cc
 operand_takes d r ins (word.Sign o ∷ ws) x h = absurd cc
@@ -350,7 +414,8 @@ module _ (d : ℕ) (next : TreeReader) where
       let one : suc (suc (suc (suc (suc (suc l))))) ≢ 1 = λ e. omega arith in
       let four : suc (suc (suc (suc (suc (suc l))))) ≢ 4 = λ e. omega arith in
       let five : suc (suc (suc (suc (suc (suc l))))) ≢ 5 = λ e. omega arith in
-      subst (IsSound d (suc (suc (suc (suc (suc (suc l))))))) (sym (stage_chain _ next one four five)) (chain_sound d _ next s four)
+      subst (IsSound d (suc (suc (suc (suc (suc (suc l))))))) (sym (stage_chain _ next one four five))
+      (chain_sound d _ next s four)
 
 reader_from : (d : ℕ) (r : TreeReader) → IsInside d r → (l : ℕ) → IsSound d l (reader d r l)
 unfolding reader
@@ -369,7 +434,8 @@ all_ok : (e : Tree) (rest : List Word) (e' : Tree) → whole_tree e rest ≡ Ok 
 all_ok e [] e' h = (cc, refl)
 all_ok e (w ∷ ws) e' h = absurd cc
 
-spelled : (ws front rest : List Word) (e e' : Tree) → Spells e front → ws ≡ front ++ rest → (e ≡ e') × (rest ≡ []) → Spells e' ws
+spelled : (ws front rest : List Word) (e e' : Tree) → Spells e front → ws ≡ front ++ rest → (e ≡ e') × (rest ≡ [])
+    → Spells e' ws
 spelled ws front rest e e' s w a =
     let same : ws ≡ front = w ∙ ap (λ rest. front ++ rest) a.1 ∙ append-nil front in
     subst (λ e. Spells e ws) a.0 (subst (λ ws. Spells e ws) (sym same) s)

@@ -24,33 +24,41 @@ module _ (next : TreeReader) (level : ℕ) (tokens : List Word) where
   chain_fails form_fault.Memory h = tt
   chain_fails (form_fault.Kind f) h = rw h refl
 
-  ends_at : (bound : ℕ) (left : Tree) (rest : List Word) → length rest < bound → operator_at level rest ≡ None → turns bound next level left rest ≡ Ok (left, rest)
+  ends_at : (bound : ℕ) (left : Tree) (rest : List Word) → length rest < bound → operator_at level rest ≡ None
+      → turns bound next level left rest ≡ Ok (left, rest)
   unfolding turns
   ends_at zero left rest lt none = absurd (omega arith)
   ends_at (suc n) left rest lt none = rw none refl
 
-  pub ends : (left : Tree) (rest : List Word) → SoFar next level tokens left rest → operator_at level rest ≡ None → chain next level tokens ≡ Ok (left, rest)
+  pub ends : (left : Tree) (rest : List Word) → SoFar next level tokens left rest → operator_at level rest ≡ None
+      → chain next level tokens ≡ Ok (left, rest)
   ends left rest so none = so.reads ∙ ends_at so.bound left rest so.enough none
 
-  steps_at : (bound : ℕ) (left right : Tree) (rest after others : List Word) (o : BinaryOperator) → length rest < bound → operator_at level rest ≡ Some (o, after) → next after ≡ Ok (right, others)
+  steps_at : (bound : ℕ) (left right : Tree) (rest after others : List Word) (o : BinaryOperator) → length rest < bound
+      → operator_at level rest ≡ Some (o, after) → next after ≡ Ok (right, others)
       → (n : ℕ) × (bound ≡ suc n) × (turns bound next level left rest ≡ turns n next level (Binary o left right) others)
   unfolding turns
   steps_at zero left right rest after others o lt some h = absurd (omega arith)
   steps_at (suc n) left right rest after others o lt some h = (n, refl, rw (some, h) refl)
 
-  pub steps : (left right : Tree) (rest after others : List Word) (o : BinaryOperator) → SoFar next level tokens left rest → operator_at level rest ≡ Some (o, after) → next after ≡ Ok (right, others)
+  pub steps : (left right : Tree) (rest after others : List Word) (o : BinaryOperator)
+      → SoFar next level tokens left rest → operator_at level rest ≡ Some (o, after) → next after ≡ Ok (right, others)
       → length others < length rest → SoFar next level tokens (Binary o left right) others
   steps left right rest after others o so some h lt =
       let s = steps_at so.bound left right rest after others o so.enough some h in
       record { bound = s.0; enough = omega (arith, s.1, so.enough); reads = so.reads ∙ s.2 }
 
-  fails_at : (e : FormFault) (bound : ℕ) (left : Tree) (rest after : List Word) (o : BinaryOperator) → length rest < bound → operator_at level rest ≡ Some (o, after) → WordsFail e (next after) → WordsFail e (turns bound next level left rest)
+  fails_at : (e : FormFault) (bound : ℕ) (left : Tree) (rest after : List Word) (o : BinaryOperator)
+      → length rest < bound → operator_at level rest ≡ Some (o, after) → WordsFail e (next after)
+      → WordsFail e (turns bound next level left rest)
   unfolding turns
   fails_at e zero left rest after o lt some h = absurd (omega arith)
   fails_at form_fault.Memory (suc n) left rest after o lt some h = tt
   fails_at (form_fault.Kind f) (suc n) left rest after o lt some h = rw (some, h) refl
 
-  pub fails : (e : FormFault) (left : Tree) (rest after : List Word) (o : BinaryOperator) → SoFar next level tokens left rest → operator_at level rest ≡ Some (o, after) → WordsFail e (next after) → WordsFail e (chain next level tokens)
+  pub fails : (e : FormFault) (left : Tree) (rest after : List Word) (o : BinaryOperator)
+      → SoFar next level tokens left rest → operator_at level rest ≡ Some (o, after) → WordsFail e (next after)
+      → WordsFail e (chain next level tokens)
   fails e left rest after o so some h = rw so.reads (fails_at e so.bound left rest after o so.enough some h)
 
 pub words_length : (ts : List Token) → length (words ts) ≡ length ts

@@ -1,19 +1,17 @@
 -- The store and the world from which a run begins have the code's shape.
 use Rattle.std.proofs.Common.{◌≡◌, ◌<◌, ◌≤◌, ℕ, zero, suc, ◌-◌, true, List, [], ◌∷◌, length, Option, Some, None, refl}
 use Rattle.std.proofs.Common.{sym, ap, subst, ◌∙◌, arith}
-use Rattle.std.specs.Prelude.{◌&&◌, nat_le, map, replicate, slice_get, slice_index_or, is_some, IfSome}
+use Rattle.std.specs.Prelude.{◌&&◌, nat_le, map, replicate, slice_get, slice_index_or, IfSome}
 use Rattle.std.specs.List.{list_all}
 use Rattle.std.proofs.lemmas.Bool.{leb-true, and_parts}
 use Rattle.std.proofs.lemmas.List.{length-map, length-replicate}
 use Rattle.std.proofs.lemmas.Option.{slice_get_within}
 use Rattle.calendar.specs.declared.day.DayParts.{DayParts}
 use Rattle.xvalue.specs.declared.value.Value.{Value}
-use Rattle.shape.specs.declared.indexes.IndexShape.{IndexShape}
 use Rattle.shape.specs.declared.tables.TableShape.{TableShape}
 use Rattle.open_table.specs.Open.{OpenState}
-use Rattle.open_table.specs.Marks.{mark_at}
 use Rattle.work_area.specs.declared.uses.Use.{Use}
-use Rattle.work_area.specs.Areas.{StoreState, AreApart, closed_all, used_table, table_at}
+use Rattle.work_area.specs.Areas.{StoreState, AreApart, closed_all, used_table}
 use Rattle.work_area.specs.Making.{HaveAlikeFields}
 use Rattle.work_area.specs.Shapes.{StoreHasShape, ShapesStay}
 use Rattle.code_items.specs.declared.declared.Declared.{Declared}
@@ -28,7 +26,7 @@ use Rattle.code_items.specs.Legal.{instructions_are_legal, is_code, IsCode}
 use Rattle.run_steps.specs.World.{World, state_of, kind_held}
 use Rattle.run_steps.specs.Opening.{opening}
 use Rattle.run_steps.specs.Shapes.{ListStands, StoreFits, HasShape}
-use Rattle.run_laws.proofs.Shaped.{kinds_from, fits_of, desk_is, state_is}
+use Rattle.run_laws.proofs.Shaped.{kinds_from, indexes_at, fits_of, desk_is, state_is}
 use Rattle.run_laws.proofs.Stores.{closes_all}
 use Rattle.run_laws.proofs.Changes.{Stay}
 use Rattle.run_laws.proofs.Tests.{is_there}
@@ -85,7 +83,9 @@ pub new_fits : (d : Declared) (s : StoreState) → ShapesStay d.shape s → Stor
 new_fits d s stay h closed = record {
   count = h.count;
   fields = λ t lt. fields_at t (slice_get s.tables t) refl (slice_get d.shape.tables t) refl;
-  indexes = λ n. index_at n (slice_get d.shape.indexes n) refl;
+  indexes = indexes_at d s
+      (λ n x o is e. let shape = is_there d.shape.tables x.table
+      (omega (arith, h.count, slice_get_within s.tables x.table o e)) in stay.declared n x o shape.0 h is e shape.1);
   lists =
       λ a. subst (λ (x : Option Use). IfSome x (λ (u : Use). IfSome (used_table s x) (ListStands d u)))
       (sym (ap (λ (areas : List (Option Use)). slice_index_or areas (a - 1) None) closed ∙ none_there 10 (a - 1))) tt;
@@ -99,16 +99,3 @@ new_fits d s stay h closed = record {
     fields_at t None e y f = tt
     fields_at t (Some o) e None f = tt
     fields_at t (Some o) e (Some shape) f = h.fields t o shape e f
-
-    mark_in : (n : ℕ) (x : IndexShape) → slice_get d.shape.indexes n ≡ Some x → (y : Option OpenState)
-        → slice_get s.tables x.table ≡ y → IfSome y (λ (o : OpenState). is_some (mark_at o.table.marks n) ≡ true)
-    mark_in n x is None e = tt
-    mark_in n x is (Some o) e =
-        (let shape = is_there d.shape.tables x.table
-        (omega (arith, h.count, slice_get_within s.tables x.table o e)) in stay.declared n x o shape.0 h is e shape.1)
-
-    index_at : (n : ℕ) (x : Option IndexShape) → slice_get d.shape.indexes n ≡ x
-        → IfSome x
-        (λ (x : IndexShape). IfSome (table_at s x.table) (λ (o : OpenState). is_some (mark_at o.table.marks n) ≡ true))
-    index_at n None e = tt
-    index_at n (Some x) e = mark_in n x e (slice_get s.tables x.table) refl

@@ -62,11 +62,30 @@ sound_from d s all ten least most fits apart = record {
   apart = apart;
 }
 
+-- of each declared index, where its table has a mark for it
+pub indexes_at : (d : Declared) (s : StoreState)
+    → ((n : ℕ) (x : IndexShape) (o : OpenState) → slice_get d.shape.indexes n ≡ Some x
+    → slice_get s.tables x.table ≡ Some o → is_some (mark_at o.table.marks n) ≡ true) → (n : ℕ)
+    → IfSome (slice_get d.shape.indexes n)
+    (λ (x : IndexShape). IfSome (table_at s x.table) (λ (o : OpenState). is_some (mark_at o.table.marks n) ≡ true))
+indexes_at d s marked n = index_at (slice_get d.shape.indexes n) refl
+  where
+    mark_in : (x : IndexShape) → slice_get d.shape.indexes n ≡ Some x → (y : Option OpenState)
+        → slice_get s.tables x.table ≡ y → IfSome y (λ (o : OpenState). is_some (mark_at o.table.marks n) ≡ true)
+    mark_in x is None e = tt
+    mark_in x is (Some o) e = marked n x o is e
+
+    index_at : (x : Option IndexShape) → slice_get d.shape.indexes n ≡ x
+        → IfSome x
+        (λ (x : IndexShape). IfSome (table_at s x.table) (λ (o : OpenState). is_some (mark_at o.table.marks n) ≡ true))
+    index_at None e = tt
+    index_at (Some x) e = mark_in x e (slice_get s.tables x.table) refl
+
 pub fits_of : (d : Declared) (s : StoreState) → IsSound d s → StoreFits d s
 fits_of d s h = record {
   count = h.count;
   fields = λ t lt. fields_at t (slice_get s.tables t) refl;
-  indexes = λ n. index_at n (slice_get d.shape.indexes n) refl;
+  indexes = indexes_at d s (λ n x o is e. (h.kinds x.table o e).indexes n x is refl);
   lists = λ a. list_at a (use_at s a) refl;
 }
   where
@@ -76,17 +95,6 @@ fits_of d s h = record {
         (λ (declared : TableShape). HaveAlikeFields o.table.structure.fields declared.fields))
     fields_at t None e = tt
     fields_at t (Some o) e = (h.kinds t o e).fields
-
-    mark_in : (n : ℕ) (x : IndexShape) → slice_get d.shape.indexes n ≡ Some x → (y : Option OpenState)
-        → slice_get s.tables x.table ≡ y → IfSome y (λ (o : OpenState). is_some (mark_at o.table.marks n) ≡ true)
-    mark_in n x is None e = tt
-    mark_in n x is (Some o) e = (h.kinds x.table o e).indexes n x is refl
-
-    index_at : (n : ℕ) (x : Option IndexShape) → slice_get d.shape.indexes n ≡ x
-        → IfSome x
-        (λ (x : IndexShape). IfSome (table_at s x.table) (λ (o : OpenState). is_some (mark_at o.table.marks n) ≡ true))
-    index_at n None e = tt
-    index_at n (Some x) e = mark_in n x e (slice_get s.tables x.table) refl
 
     list_at : (a : ℕ) (x : Option Use) → use_at s a ≡ x
         → IfSome x (λ (u : Use). IfSome (used_table s x) (ListStands d u))

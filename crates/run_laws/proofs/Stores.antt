@@ -7,7 +7,7 @@ use Rattle.std.specs.Prelude.{is_some, IfSome}
 use Rattle.std.specs.List.{list_any}
 use Rattle.std.proofs.lemmas.Bool.{eqb-true, eqb-false, eq-eqb, false≢true, ltb-true, leb-true, lt-ltb, le-leb}
 use Rattle.std.proofs.lemmas.Bool.{and_parts, and_from}
-use Rattle.std.proofs.lemmas.List.{length-set, length-map, get_or-set_same, get_or-set_other}
+use Rattle.std.proofs.lemmas.List.{length-set, length-map}
 use Rattle.std.proofs.lemmas.Option.{slice_get_within}
 use Rattle.dbf_file.specs.Tables.{StructureState}
 use Rattle.shape.specs.declared.indexes.IndexShape.{IndexShape}
@@ -16,10 +16,11 @@ use Rattle.open_table.specs.Open.{OpenState, closed}
 use Rattle.open_table.specs.Marks.{IndexMark, mark_at}
 use Rattle.work_area.specs.declared.uses.Use.{Use}
 use Rattle.work_area.specs.Areas.{StoreState, AreApart, selected_use, used_table, here, holds, is_elsewhere, with_table}
-use Rattle.work_area.specs.Areas.{with_use, with_used, with_selected, changed_found, closed_here, closed_all}
+use Rattle.work_area.specs.Areas.{with_use, with_used, with_selected, closed_here, closed_all}
 use Rattle.work_area.specs.Calls.{used_here}
 use Rattle.work_area.specs.Making.{HaveAlikeFields}
 use Rattle.work_area.specs.Shapes.{still, IsSameKind, KindsStay}
+use Rattle.work_area.proofs.AreaLemmas.{at_set, get_set_other, put_closed, put_closed_here}
 use Rattle.work_area.proofs.ShapeLemmas.{closed_got}
 use Rattle.code_items.specs.declared.declared.Declared.{Declared}
 use Rattle.code_items.specs.States.{is_list_of, is_filter_of, opened_by, is_open}
@@ -65,33 +66,11 @@ got_set (x ∷ xs) (suc t) (suc k) p a e =
       | inr h ↦ inr h
     ]
 
-pub set_other : {A : Type 0} (xs : List A) (t k : ℕ) (p : A) → k ≢ t → slice_get (slice_set xs t p) k ≡ slice_get xs k
-set_other [] t k p differ = refl
-set_other (x ∷ xs) zero zero p differ = absurd (differ refl)
-set_other (x ∷ xs) zero (suc k) p differ = refl
-set_other (x ∷ xs) (suc t) zero p differ = refl
-set_other (x ∷ xs) (suc t) (suc k) p differ = set_other xs t k p (λ e. differ (ap suc e))
-
 pub set_there : {A : Type 0} (xs : List A) (t : ℕ) (p x : A) → slice_get xs t ≡ Some x
     → slice_get (slice_set xs t p) t ≡ Some p
 set_there [] t p x e = absurd (cc)
 set_there (y ∷ xs) zero p x e = refl
 set_there (y ∷ xs) (suc t) p x e = set_there xs t p x e
-
--- what an area holds where one area got something else
-at_set : (areas : List (Option Use)) (p a : ℕ) (x : Option Use) (u : Use) → p < length areas
-    → slice_index_or (slice_set areas p x) a None ≡ Some u
-    → ((a ≡ p) × (x ≡ Some u)) ⊎ ((a ≢ p) × (slice_index_or areas a None ≡ Some u))
-at_set areas p a x u lt e =
-    elim (a == p) as (λ b. a == p ≡ b → ((a ≡ p) × (x ≡ Some u)) ⊎ ((a ≢ p) × (slice_index_or areas a None ≡ Some u))) [
-      | true ↦ λ f. (let same : a ≡ p = eqb-true a p f in inl (
-        same,
-        sym (get_or-set_same areas p x None lt) ∙ ap (λ k. slice_index_or (slice_set areas p x) k None) (sym same)
-            ∙ e,
-      ))
-      | false ↦ λ f. (let differ : a ≢ p = λ same. false≢true (sym f ∙ eq-eqb a p same) in inr
-          (differ, sym (get_or-set_other areas p a x None differ) ∙ e))
-    ] refl
 
 -- no two areas hold one table, where what one got instead is held by no other
 apart_put : (areas : List (Option Use)) (p : ℕ) (x : Option Use) → p < length areas → AreApart areas
@@ -153,7 +132,7 @@ held_set d tables t o p u at keeps h =
           subst (HeldBy d u) (sym (ap (slice_get (slice_set tables t p)) same ∙ set_there tables t p o at))
           (keeps (subst (HeldBy d u) (ap (slice_get tables) same ∙ at) h)))
       | false ↦ λ e. subst (HeldBy d u)
-          (sym (set_other tables t u.table p (λ same. false≢true (sym e ∙ eq-eqb u.table t same)))) h
+          (sym (get_set_other tables t u.table p (λ same. false≢true (sym e ∙ eq-eqb u.table t same)))) h
     ] refl
 
 pub at_table : (d : Declared) (s : StoreState) (t : ℕ) (o p : OpenState) → IsSound d s → slice_get s.tables t ≡ Some o
@@ -201,7 +180,7 @@ put_both d s u o p x h there at same fits =
             | inl k ↦ (let f = fits v k.1 in subst (HeldBy d v)
                 (sym (ap (slice_get (slice_set s.tables u.table p)) f.0 ∙ set_there s.tables u.table p o at)) f.1)
             | inr k ↦ subst (HeldBy d v) (sym
-                (set_other s.tables u.table v.table p (λ e2. k.0 (h.apart n (s.selected - 1) v u k.1 there e2))))
+                (get_set_other s.tables u.table v.table p (λ e2. k.0 (h.apart n (s.selected - 1) v u k.1 there e2))))
                 (h.held n v k.1)
           ];
       ten = length-set s.areas (s.selected - 1) x ∙ h.ten;
@@ -254,15 +233,6 @@ put_none d s h =
           (λ n a b differ e f e2. absurd (let g : None ≡ Some b = f in cc));
     }
 
-abbrev pub put_closed : Option Use → Option OpenState → StoreState → StoreState
-put_closed x None s = s
-put_closed x (Some o) s = with_used x (closed o) s
-
-pub put_is : (found : Option OpenState) (s : StoreState)
-    → changed_found closed found s ≡ put_closed (selected_use s) found s
-put_is None s = refl
-put_is (Some o) s = refl
-
 areas_stay : (x : Option Use) (found : Option OpenState) (s : StoreState) → (put_closed x found s).areas ≡ s.areas
 areas_stay x None s = refl
 areas_stay None (Some o) s = refl
@@ -280,13 +250,13 @@ closed_put d s (Some u) (Some o) stay h there at =
 
 pub closes : (d : Declared) (s : StoreState) → ((o : OpenState) → KindsStay o) → IsSound d s → IsSound d (closed_here s)
 closes d s stay h =
-    subst (λ z. IsSound d (with_use z s.selected None)) (sym (put_is (here s) s))
+    subst (λ z. IsSound d (with_use z s.selected None)) (sym (put_closed_here (here s) s))
     (closed_put d s (selected_use s) (here s) stay h refl refl)
 
 closed_areas : (s : StoreState) → (closed_here s).areas ≡ slice_set s.areas (s.selected - 1) None
 closed_areas s =
     ap (λ (areas : List (Option Use)). slice_set areas (s.selected - 1) None)
-    (ap (λ (z : StoreState). z.areas) (put_is (here s) s) ∙ areas_stay (selected_use s) (here s) s)
+    (ap (λ (z : StoreState). z.areas) (put_closed_here (here s) s) ∙ areas_stay (selected_use s) (here s) s)
 
 none_held : (k n : ℕ) (u : Use) → slice_index_or (replicate k None) n None ≡ Some u → ⊥
 none_held zero n u e = cc
@@ -336,7 +306,7 @@ opens d s t l o p stay h at same elsewhere fits =
             | inl k ↦ (let is : held ≡ v = (let g : Some held ≡ Some v = k.1 in cc) in subst
                 (λ (u : Use). HeldBy d u (slice_get (slice_set z.tables t p) u.table)) is
                 (subst (HeldBy d held) (sym (set_there z.tables t p there.0 there.1)) fits))
-            | inr k ↦ subst (HeldBy d v) (sym (set_other z.tables t v.table p (not_held z.areas n t v none k.1)))
+            | inr k ↦ subst (HeldBy d v) (sym (get_set_other z.tables t v.table p (not_held z.areas n t v none k.1)))
                 (c.held n v k.1)
           ];
       ten = length-set z.areas (s.selected - 1) (Some held) ∙ c.ten;

@@ -1,10 +1,11 @@
 -- What tests of kinds, heights and numbers say of values, stacks and lists.
 use Rattle.std.proofs.Common.{◌≡◌, ℕ, zero, suc, ◌+◌, ◌-◌, ◌<◌, ◌≤◌, Bool, true, false, List, [], ◌∷◌, length, Option}
-use Rattle.std.proofs.Common.{Some, None, refl, ap, subst, arith}
-use Rattle.std.specs.Prelude.{not, ◌||◌, ◌&&◌, slice_get, slice_index_or, map, ◌==◌, nat_lt}
+use Rattle.std.proofs.Common.{Some, None, refl, ap, ◌∙◌, subst, arith}
+use Rattle.std.specs.Prelude.{not, ◌||◌, ◌&&◌, slice_get, slice_index_or, map, option_map, ◌==◌, nat_lt}
 use Rattle.std.specs.List.{list_all}
 use Rattle.std.proofs.lemmas.Bool.{ltb-false, ne_eqb, or_parts, and_parts, not-false}
 use Rattle.std.proofs.lemmas.List.{length-map}
+use Rattle.std.proofs.lemmas.Option.{slice_get-map}
 use Rattle.xvalue.specs.declared.kind.Kind.{Kind}
 use Rattle.xvalue.specs.declared.value.Value.{Value}
 use Rattle.xvalue.specs.Kinds.{kind_of, same_kind}
@@ -88,6 +89,4 @@ is_there (x ∷ xs) (suc n) lt = is_there xs n (omega (arith, lt))
 
 pub mapped_at : {A B : Type 0} (f : A → B) (xs : List A) (n : ℕ) (x : A) → slice_get xs n ≡ Some x
     → slice_get (map f xs) n ≡ Some (f x)
-mapped_at f [] n x e = absurd (cc)
-mapped_at f (y ∷ xs) zero x e = (let same : y ≡ x = cc in ap (λ z. Some (f z)) same)
-mapped_at f (y ∷ xs) (suc n) x e = mapped_at f xs n x e
+mapped_at f xs n x e = slice_get-map f xs n ∙ ap (option_map f) e

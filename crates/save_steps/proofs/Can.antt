@@ -78,7 +78,8 @@ module _ (cs : List Renewal) (apart : NamesAreApart cs) where
       let g = placing s.file c.0 (λ e. apart.crossed k k c.0 c.0 c.1 c.1 (sym e)) (s.file c.0.beside) in
       (record { paper = s.paper; draft = s.draft; file = g.0 }, ((refl, refl), (c.0, c.1, g.1)))
 
-  pub can_all : (xs : List Step) → AllByRecursion (IsWithin (length cs)) xs → (s : FolderStands) → (t : FolderStands) × DidAll cs xs s t
+  pub can_all : (xs : List Step) → AllByRecursion (IsWithin (length cs)) xs → (s : FolderStands)
+      → (t : FolderStands) × DidAll cs xs s t
   can_all [] h s = (s, refl)
   can_all (x ∷ xs) (here, h) s =
       let first = can_do x here s in

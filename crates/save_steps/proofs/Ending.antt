@@ -78,7 +78,8 @@ module _ (sum : List ℕ → List ℕ) (cs : List Renewal) (start : FolderStands
   module _ (apart : NamesAreApart cs) where
     -- ---- a planned save taken away
 
-    freed : (s : FolderStands) → HoldBeside cs (λ _. None) (length cs) s → (k : ℕ) (c : Renewal) → slice_get cs k ≡ Some c
+    freed : (s : FolderStands) → HoldBeside cs (λ _. None) (length cs) s → (k : ℕ) (c : Renewal)
+        → slice_get cs k ≡ Some c
         → s.file c.beside ≡ None
     freed s h k c at = h k c (slice_get_within cs k c at) at
 
@@ -98,16 +99,20 @@ module _ (sum : List ℕ → List ℕ) (cs : List Renewal) (start : FolderStands
         → IsPlanned cs start t
     unmakes_keep s t p h = did_keeps cs (IsPlanned cs start) (RemoveDraft ∷ unmakes (length cs)) s t (
       (λ a b q did. draft_keeps cs start a b q (inr did)),
-      all_each (KeepsWhole cs (IsPlanned cs start)) Unmake (length cs) (λ k a b q did. unmake_keeps cs start k a b q (inr did)),
+      all_each (KeepsWhole cs (IsPlanned cs start)) Unmake (length cs)
+          (λ k a b q did. unmake_keeps cs start k a b q (inr did)),
     ) p h
 
-    unmakes_free : (s t : FolderStands) → DidAll cs (RemoveDraft ∷ unmakes (length cs)) s t → HoldBeside cs (λ _. None) (length cs) t
+    unmakes_free : (s t : FolderStands) → DidAll cs (RemoveDraft ∷ unmakes (length cs)) s t
+        → HoldBeside cs (λ _. None) (length cs) t
     unmakes_free s t (m, did, rest) = all_unmade cs start apart (length cs) m t rest
 
-    back_stops : (s t : FolderStands) → IsPlanned cs start s → StopsAt cs (back_steps (length cs)) s t → IsBefore cs start t
+    back_stops : (s t : FolderStands) → IsPlanned cs start s → StopsAt cs (back_steps (length cs)) s t
+        → IsBefore cs start t
     back_stops s t p h = elim (stops_cut cs (RemoveDraft ∷ unmakes (length cs)) (Sync ∷ RemovePaper ∷ []) s t h) [
       | inl within ↦ inr (stops_keeps cs (IsPlanned cs start) (RemoveDraft ∷ unmakes (length cs)) s t
-          (draft_keeps cs start, all_each (Keeps cs (IsPlanned cs start)) Unmake (length cs) (unmake_keeps cs start)) p within)
+          (draft_keeps cs start, all_each (Keeps cs (IsPlanned cs start)) Unmake (length cs) (unmake_keeps cs start)) p
+          within)
       | inr (m, did, last) ↦ last_stops m t (unmakes_keep s m p did) (unmakes_free s m did) last
     ]
       where
@@ -124,10 +129,12 @@ module _ (sum : List ℕ → List ℕ) (cs : List Renewal) (start : FolderStands
         last_stops s t p h (inr (m, (papers, same), rest)) =
             paper_stops m t (planned_same cs start s m p papers.0 same) (free_same s m h same) rest
 
-    back_whole : (s t : FolderStands) → IsPlanned cs start s → DidAll cs (back_steps (length cs)) s t → IsAllOld cs start t
+    back_whole : (s t : FolderStands) → IsPlanned cs start s → DidAll cs (back_steps (length cs)) s t
+        → IsAllOld cs start t
     back_whole s t p h = ended (did_cut cs (RemoveDraft ∷ unmakes (length cs)) (Sync ∷ RemovePaper ∷ []) s t h)
       where
-        ended : (m : FolderStands) × DidAll cs (RemoveDraft ∷ unmakes (length cs)) s m × DidAll cs (Sync ∷ RemovePaper ∷ []) m t
+        ended : (m : FolderStands) × DidAll cs (RemoveDraft ∷ unmakes (length cs)) s m
+            × DidAll cs (Sync ∷ RemovePaper ∷ []) m t
             → IsAllOld cs start t
         ended (m, did, (w, (papers, same), (v, (paper, draft, alike), e))) =
             let planned = planned_same cs start m w (unmakes_keep s m p did) papers.0 same in
@@ -148,11 +155,13 @@ module _ (sum : List ℕ → List ℕ) (cs : List Renewal) (start : FolderStands
     placed_same : (s t : FolderStands) → ArePlaced cs (length cs) s → Same s.file t.file → ArePlaced cs (length cs) t
     placed_same s t h same k c below at = (same c.name ∙ (h k c below at).0, same c.beside ∙ (h k c below at).1)
 
-    pub place_stops : (s t : FolderStands) → IsNoted cs start s → StopsAt cs (place_steps (length cs)) s t → IsBehind cs start t
+    pub place_stops : (s t : FolderStands) → IsNoted cs start s → StopsAt cs (place_steps (length cs)) s t
+        → IsBehind cs start t
     place_stops s t p h = elim (stops_cut cs (places (length cs)) (Sync ∷ RemovePaper ∷ []) s t h) [
       | inl within ↦ inl (stops_keeps cs (IsNoted cs start) (places (length cs)) s t
           (all_each (Keeps cs (IsNoted cs start)) Place (length cs) (place_keeps cs start apart)) p within)
-      | inr (m, did, last) ↦ last_stops m t (places_keep cs start apart (length cs) s m p did) (all_placed cs start apart (length cs) s m p did) last
+      | inr (m, did, last) ↦ last_stops m t (places_keep cs start apart (length cs) s m p did)
+          (all_placed cs start apart (length cs) s m p did) last
     ]
       where
         paper_stops : (s t : FolderStands) → IsNoted cs start s → ArePlaced cs (length cs) s
@@ -168,7 +177,8 @@ module _ (sum : List ℕ → List ℕ) (cs : List Renewal) (start : FolderStands
         last_stops s t p h (inr (m, (papers, same), rest)) =
             paper_stops m t (noted_same cs start s m p papers.0 same) (placed_same s m h same) rest
 
-    pub place_whole : (s t : FolderStands) → IsNoted cs start s → DidAll cs (place_steps (length cs)) s t → IsAllNew cs start t
+    pub place_whole : (s t : FolderStands) → IsNoted cs start s → DidAll cs (place_steps (length cs)) s t
+        → IsAllNew cs start t
     place_whole s t p h = ended (did_cut cs (places (length cs)) (Sync ∷ RemovePaper ∷ []) s t h)
       where
         ended : (m : FolderStands) × DidAll cs (places (length cs)) s m × DidAll cs (Sync ∷ RemovePaper ∷ []) m t
@@ -195,7 +205,8 @@ module _ (sum : List ℕ → List ℕ) (cs : List Renewal) (start : FolderStands
         inl (stops_keeps cs (IsAllOld cs start) without_steps s t (draft_keeps_old cs start, tt) old
         (subst (λ (steps : List Step). StopsAt cs steps s t) is h))
     step_before s t steps (inr planned) e h =
-        let is : steps ≡ back_steps (length cs) = same_Some steps (back_steps (length cs)) (sym e ∙ known_planned s planned) in
+        let is : steps ≡ back_steps (length cs) =
+        same_Some steps (back_steps (length cs)) (sym e ∙ known_planned s planned) in
         back_stops s t planned (subst (λ (steps : List Step). StopsAt cs steps s t) is h)
 
     step_behind : (s t : FolderStands) (steps : List Step) → IsBehind cs start s → next_steps sum cs s ≡ Some steps
@@ -229,7 +240,8 @@ module _ (sum : List ℕ → List ℕ) (cs : List Renewal) (start : FolderStands
       known_absent s old.paper,
       can_all cs apart without_steps (without_within (length cs)) s,
       λ u h. (
-        did_keeps cs (IsAllOld cs start) without_steps s u ((λ a b q did. draft_keeps_old cs start a b q (inr did)), tt) old h,
+        did_keeps cs (IsAllOld cs start) without_steps s u
+            ((λ a b q did. draft_keeps_old cs start a b q (inr did)), tt) old h,
         no_draft cs [] s u tt h,
       ),
     )
@@ -249,7 +261,8 @@ module _ (sum : List ℕ → List ℕ) (cs : List Renewal) (start : FolderStands
       known_absent s new.paper,
       can_all cs apart without_steps (without_within (length cs)) s,
       λ u h. (
-        did_keeps cs (IsAllNew cs start) without_steps s u ((λ a b q did. draft_keeps_new cs start a b q (inr did)), tt) new h,
+        did_keeps cs (IsAllNew cs start) without_steps s u
+            ((λ a b q did. draft_keeps_new cs start a b q (inr did)), tt) new h,
         no_draft cs [] s u tt h,
       ),
     )
@@ -296,7 +309,8 @@ module _ (sum : List ℕ → List ℕ) (cs : List Renewal) (start : FolderStands
               → IsPlanned cs start t × HoldBeside cs (λ c. Some c.new) (length cs) t
           made (w, all, (v, (papers, alike), e)) =
               let planned : IsPlanned cs start w = did_keeps cs (IsPlanned cs start) (make_steps (length cs)) m w
-              (all_each (KeepsWhole cs (IsPlanned cs start)) Make (length cs) (λ k a b q did. make_keeps cs start k a b q (inr did)))
+              (all_each (KeepsWhole cs (IsPlanned cs start)) Make (length cs)
+              (λ k a b q did. make_keeps cs start k a b q (inr did)))
               (planned_now m paper same) all in
               let held : HoldBeside cs (λ c. Some c.new) (length cs) w = all_made cs start apart (length cs) m w all in
               subst (λ (x : FolderStands). IsPlanned cs start x × HoldBeside cs (λ c. Some c.new) (length cs) x) (sym e)
@@ -319,17 +333,20 @@ module _ (sum : List ℕ → List ℕ) (cs : List Renewal) (start : FolderStands
       between m s p held (inl (paper, same)) = inl (ends_old s (inr (planned_same cs start m s p paper same)))
       between m s p held (inr did) = inr (ends_new s (inl (noted m s p held did)))
 
-      noted_whole : (m : FolderStands) → DidAll cs (plan_steps (length cs) ++ WriteNote ∷ []) start m → IsNoted cs start m
+      noted_whole : (m : FolderStands) → DidAll cs (plan_steps (length cs) ++ WriteNote ∷ []) start m
+          → IsNoted cs start m
       noted_whole m h = at_note (did_cut cs (plan_steps (length cs)) (WriteNote ∷ []) start m h)
         where
-          at_note : (w : FolderStands) × DidAll cs (plan_steps (length cs)) start w × DidAll cs (WriteNote ∷ []) w m → IsNoted cs start m
+          at_note : (w : FolderStands) × DidAll cs (plan_steps (length cs)) start w × DidAll cs (WriteNote ∷ []) w m
+              → IsNoted cs start m
           at_note (w, all, (v, did, e)) =
               let here = plan_whole w all in subst (IsNoted cs start) (sym e) (noted w v here.0 here.1 did)
 
       whole : (t : FolderStands) → DidAll cs (save_steps (length cs)) start t → IsAllNew cs start t
       whole t h = ended (did_cut cs (plan_steps (length cs)) (WriteNote ∷ place_steps (length cs)) start t h)
         where
-          ended : (w : FolderStands) × DidAll cs (plan_steps (length cs)) start w × DidAll cs (WriteNote ∷ place_steps (length cs)) w t
+          ended : (w : FolderStands) × DidAll cs (plan_steps (length cs)) start w
+              × DidAll cs (WriteNote ∷ place_steps (length cs)) w t
               → IsAllNew cs start t
           ended (w, all, (v, did, rest)) =
               let here = plan_whole w all in place_whole v t (noted w v here.0 here.1 did) rest

@@ -44,17 +44,20 @@ ArePlaced cs n now = (k : ℕ) (c : Renewal) → k < n → slice_get cs k ≡ So
 module _ (cs : List Renewal) (start : FolderStands) where
   -- ---- where no file changes
 
-  pub old_same : (s t : FolderStands) → IsAllOld cs start s → t.paper ≡ s.paper → Same s.file t.file → IsAllOld cs start t
+  pub old_same : (s t : FolderStands) → IsAllOld cs start s → t.paper ≡ s.paper → Same s.file t.file
+      → IsAllOld cs start t
   old_same s t p e same = record {
     paper = e ∙ p.paper;
     free = λ k c at. same c.beside ∙ p.free k c at;
     others = λ n free. same n ∙ p.others n free;
   }
 
-  pub planned_same : (s t : FolderStands) → IsPlanned cs start s → t.paper ≡ s.paper → Same s.file t.file → IsPlanned cs start t
+  pub planned_same : (s t : FolderStands) → IsPlanned cs start s → t.paper ≡ s.paper → Same s.file t.file
+      → IsPlanned cs start t
   planned_same s t p e same = record { paper = e ∙ p.paper; others = λ n free. same n ∙ p.others n free }
 
-  pub noted_same : (s t : FolderStands) → IsNoted cs start s → t.paper ≡ s.paper → Same s.file t.file → IsNoted cs start t
+  pub noted_same : (s t : FolderStands) → IsNoted cs start s → t.paper ≡ s.paper → Same s.file t.file
+      → IsNoted cs start t
   noted_same s t p e same = record {
     paper = e ∙ p.paper;
     each = λ k c at. elim (p.each k c at) [
@@ -64,7 +67,8 @@ module _ (cs : List Renewal) (start : FolderStands) where
     others = λ n free. same n ∙ p.others n free;
   }
 
-  pub new_same : (s t : FolderStands) → IsAllNew cs start s → t.paper ≡ s.paper → Same s.file t.file → IsAllNew cs start t
+  pub new_same : (s t : FolderStands) → IsAllNew cs start s → t.paper ≡ s.paper → Same s.file t.file
+      → IsAllNew cs start t
   new_same s t p e same = record {
     paper = e ∙ p.paper;
     each = λ k c at. (same c.name ∙ (p.each k c at).0, same c.beside ∙ (p.each k c at).1);
@@ -115,7 +119,8 @@ module _ (cs : List Renewal) (start : FolderStands) where
 
   module _ (apart : NamesAreApart cs) where
     -- one more new file holds it
-    pub one_more : (found : Renewal → Option (List ℕ)) (n : ℕ) (s t : FolderStands) (b : Renewal) → HoldBeside cs found n s
+    pub one_more : (found : Renewal → Option (List ℕ)) (n : ℕ) (s t : FolderStands) (b : Renewal)
+        → HoldBeside cs found n s
         → slice_get cs n ≡ Some b → IsPut s.file b.beside (found b) t.file → HoldBeside cs found (suc n) t
     one_more found n s t b h at put k c below here = elim (cases_eq k n) [
       | inl e ↦
@@ -151,8 +156,16 @@ module _ (cs : List Renewal) (start : FolderStands) where
       -- the new file stands, and is renamed, or it is in place already
       how : (IsWaiting s c × IsRenamed s.file c.beside c.name t.file) ⊎ (IsPlaced s c × Same s.file t.file)
       how = elim (noted.each k c at) [
-        | inl waiting ↦ inl (waiting, MatchOption-at_some (Same s.file t.file) (λ _. IsRenamed s.file c.beside c.name t.file) c.new waiting.1 placing)
-        | inr placed ↦ inr (placed, MatchOption-at_none (Same s.file t.file) (λ _. IsRenamed s.file c.beside c.name t.file) placed.1 placing)
+        | inl waiting ↦ inl (
+          waiting,
+          MatchOption-at_some (Same s.file t.file)
+              (λ _. IsRenamed s.file c.beside c.name t.file) c.new waiting.1 placing,
+        )
+        | inr placed ↦ inr (
+          placed,
+          MatchOption-at_none (Same s.file t.file)
+              (λ _. IsRenamed s.file c.beside c.name t.file) placed.1 placing,
+        )
       ]
 
       pub place_here : IsPlaced t c

@@ -37,7 +37,8 @@ pub all_and : (P : Step → Type 0) (xs ys : List Step) → AllByRecursion P xs 
 all_and P [] ys a b = b
 all_and P (x ∷ xs) ys (h, a) b = (h, all_and P xs ys a b)
 
-pub all_each : (P : Step → Type 0) (step : ℕ → Step) (n : ℕ) → ((k : ℕ) → P (step k)) → AllByRecursion P (for_each step n)
+pub all_each : (P : Step → Type 0) (step : ℕ → Step) (n : ℕ) → ((k : ℕ) → P (step k))
+    → AllByRecursion P (for_each step n)
 all_each P step zero h = tt
 all_each P step (suc n) h = all_and P (for_each step n) (step n ∷ []) (all_each P step n h) (h n, tt)
 

@@ -14,7 +14,7 @@ use Rattle.work_area.specs.Areas.{IsStore, holds, StoreState, selected_use, used
 use Rattle.work_area.specs.Areas.{with_used, changed_found, closed_at, closed_other, closed_here}
 
 -- what an area holds where one area got something else
-at_set : (areas : List (Option Use)) (p a : ℕ) (x : Option Use) (u : Use) → p < length areas
+pub at_set : (areas : List (Option Use)) (p a : ℕ) (x : Option Use) (u : Use) → p < length areas
     → get_or (set areas p x) a None ≡ Some u → ((a ≡ p) × (x ≡ Some u)) ⊎ ((a ≢ p) × (get_or areas a None ≡ Some u))
 at_set areas p a x u lt e =
     elim (a == p) as (λ b. a == p ≡ b → ((a ≡ p) × (x ≡ Some u)) ⊎ ((a ≢ p) × (get_or areas a None ≡ Some u))) [
@@ -81,20 +81,19 @@ set_both (z ∷ xs) zero (suc q) x y differ = refl
 set_both (z ∷ xs) (suc p) zero x y differ = refl
 set_both (z ∷ xs) (suc p) (suc q) x y differ = ap (λ zs. z ∷ zs) (set_both xs p q x y (λ e. differ (ap suc e)))
 
-get_set_other : {X : Type 0} (xs : List X) (p q : ℕ) (x : X) → q ≢ p → slice_get (set xs p x) q ≡ slice_get xs q
+pub get_set_other : {X : Type 0} (xs : List X) (p q : ℕ) (x : X) → q ≢ p → slice_get (set xs p x) q ≡ slice_get xs q
 get_set_other [] p q x differ = refl
 get_set_other (z ∷ xs) zero zero x differ = absurd (differ refl)
 get_set_other (z ∷ xs) zero (suc q) x differ = refl
 get_set_other (z ∷ xs) (suc p) zero x differ = refl
 get_set_other (z ∷ xs) (suc p) (suc q) x differ = get_set_other xs p q x (λ e. differ (ap suc e))
 
-put_closed : Option Use → Option OpenState → StoreState → StoreState
+abbrev pub put_closed : Option Use → Option OpenState → StoreState → StoreState
 put_closed x None s = s
 put_closed x (Some o) s = with_used x (closed o) s
 
-put_closed_here : (found : Option OpenState) (s : StoreState) → changed_found closed found s
+pub put_closed_here : (found : Option OpenState) (s : StoreState) → changed_found closed found s
     ≡ put_closed (selected_use s) found s
-unfolding put_closed
 put_closed_here None s = refl
 put_closed_here (Some o) s = refl
 
@@ -115,7 +114,6 @@ let_go_at : (s : StoreState) (u : Use) (found : Option OpenState) (b : Bool) (t 
     → with_use (cond b (with_table s t fresh)
     (closed_at u.table (table_at (with_table s t fresh) u.table) (with_table s t fresh))) s.selected (Some held)
     ≡ with_use (with_table (with_use (put_closed (Some u) found s) s.selected None) t fresh) s.selected (Some held)
-unfolding put_closed
 let_go_at s u None true t fresh held there same = same_store s (set s.tables t fresh) (set s.tables t fresh) held refl
 let_go_at s u (Some o) true t fresh held there same =
     same_store s (set (set s.tables u.table (closed o)) t fresh) (set s.tables t fresh) held
@@ -136,7 +134,6 @@ let_go_at s u found false t fresh held there same =
 let_go_in : (s : StoreState) (x : Option Use) (t : ℕ) (fresh : OpenState) (held : Use)
     → with_use (closed_other t x (with_table s t fresh)) s.selected (Some held)
     ≡ with_use (with_table (with_use (put_closed x (used_table s x) s) s.selected None) t fresh) s.selected (Some held)
-unfolding put_closed
 let_go_in s None t fresh held = same_store s (set s.tables t fresh) (set s.tables t fresh) held refl
 let_go_in s (Some u) t fresh held = let_go_at s u (slice_get s.tables u.table) (u.table == t) t fresh held refl refl
 

@@ -1,5 +1,6 @@
 pub mod AnswerLemmas
 pub mod Gathering
+pub mod KindLemmas
 pub mod Numbers
 pub mod OrderLemmas
 pub mod ReadLemmas

@@ -1,6 +1,8 @@
 -- Functions by their numbers.
-use Rattle.std.specs.Prelude.{◌≡◌, ℕ, zero, suc, ◌+◌, List, [], ◌∷◌, Some, IfSome, slice_get, refl}
-use Rattle.std.proofs.Common.{Option, None, arith, ◌∙◌, subst}
+use Rattle.std.specs.Prelude.{◌≡◌, ℕ, zero, suc, ◌+◌, ◌==◌, ◌&&◌, Bool, true, List, [], ◌∷◌, Some, IfSome, slice_get}
+use Rattle.std.proofs.Common.{Option, None, refl, arith, ◌∙◌, subst}
+use Rattle.std.proofs.lemmas.Bool.{and_parts, eqb-true}
+use Rattle.std.proofs.lemmas.Option.{same_Some}
 use Rattle.xvalue.specs.declared.fun.Fun.{Fun}
 use Rattle.xvalue.specs.declared.fun.Fun.TheVariants.{Add, Sub, Mul, Div, Neg, NumberEq, NumberLess, NumberGreater}
 use Rattle.xvalue.specs.declared.fun.Fun.TheVariants.{TextEq, TextLess, TextGreater, DateEq, DateLess, DateGreater, Not}
@@ -11,18 +13,21 @@ use Rattle.xvalue.specs.declared.fun.Fun.TheVariants.{Val, Str, IsAlpha, IsUpper
 use Rattle.xvalue.specs.declared.fun.Fun.TheVariants.{Min, Ctod, Dtoc, Day, Month, Year, Dow, Cdow, Cmonth}
 use Rattle.xvalue.specs.Signature.{function_number, all_functions, numbered, NumbersAgree}
 
--- numbers that rise by one from a first one
-abbrev pub Rise : ℕ → List Fun → Type 0
-Rise n [] = Unit {0}
-Rise n (fun ∷ funs) = (function_number fun ≡ n) × Rise (suc n) funs
+-- whether numbers rise by one from a first one
+abbrev do_rise : ℕ → List Fun → Bool
+do_rise n [] = true
+do_rise n (fun ∷ funs) = function_number fun == n && do_rise (suc n) funs
 
-pub rising : (n : ℕ) (funs : List Fun) → Rise n funs → (k : ℕ) → IfSome (slice_get funs k)
+rising : (n : ℕ) (funs : List Fun) → do_rise n funs ≡ true → (k : ℕ) → IfSome (slice_get funs k)
     (λ f. function_number f ≡ n + k)
 rising n [] r k = tt
-rising n (fun ∷ funs) r zero = r.0 ∙ omega arith
+rising n (fun ∷ funs) r zero =
+    let p = and_parts (function_number fun == n) (do_rise (suc n) funs) r in
+    eqb-true (function_number fun) n p.0 ∙ omega arith
 rising n (fun ∷ funs) r (suc k) =
+    let p = and_parts (function_number fun == n) (do_rise (suc n) funs) r in
     let e : suc n + k ≡ n + suc k = omega arith in
-    subst (λ m. IfSome (slice_get funs k) (λ f. function_number f ≡ m)) e (rising (suc n) funs r.1 k)
+    subst (λ m. IfSome (slice_get funs k) (λ f. function_number f ≡ m)) e (rising (suc n) funs p.1 k)
 
 each : (f : Fun) → numbered (function_number f) ≡ Some f
 each Add = refl
@@ -86,21 +91,15 @@ each Dow = refl
 each Cdow = refl
 each Cmonth = refl
 
-rises : Rise 1 all_functions
-rises = (refl, (refl, (refl, (refl, (refl, (refl, (refl, (refl, (refl, (refl, (refl, (refl, (refl, (refl, (refl, (refl, (refl, (refl, (refl, (refl, (refl, (refl, (refl, (refl, (refl, (refl, (refl, (refl, (refl, (refl, (refl, (refl, (refl, (refl, (refl, (refl, (refl, (refl, (refl, (refl, (refl, (refl, (refl, (refl, (refl, (refl, (refl, (refl, (refl, (refl, (refl, (refl, (refl, (refl, (refl, (refl, (refl, (refl, (refl, (refl, tt))))))))))))))))))))))))))))))))))))))))))))))))))))))))))))
-
-some_same : {A : Type 0} (x y : A) → ◌≡◌ {A = Option A} (Some x) (Some y) → x ≡ y
-some_same x y e = cc
-
 if_some : {A : Type 0} (P : A → Type 0) (r : Option A) (x : A) → IfSome r P → r ≡ Some x → P x
 if_some P None x h e = absurd cc
-if_some P (Some y) x h e = subst P (some_same y x e) h
+if_some P (Some y) x h e = subst P (same_Some y x e) h
 
 same : (number : ℕ) (fun : Fun) → numbered number ≡ Some fun → number ≡ function_number fun
 same zero fun e = absurd cc
 same (suc index) fun e =
     let is : function_number fun ≡ 1 + index = if_some (λ f. function_number f ≡ 1 + index)
-    (slice_get all_functions index) fun (rising 1 all_functions rises index) e in
+    (slice_get all_functions index) fun (rising 1 all_functions refl index) e in
     omega (arith, is)
 
 pub agree : NumbersAgree

@@ -2,8 +2,9 @@
 use Rattle.std.proofs.Common.{◌≡◌, ℕ, zero, suc, ◌+◌, ◌<◌, ◌≤◌, ◌↔◌, true, false, List, [], ◌∷◌, ◌++◌, length}
 use Rattle.std.proofs.Common.{length-drop, drop, reverse, replicate, append-nil, append_assoc, ◌==◌, refl, sym, ap, ◌∙◌}
 use Rattle.std.proofs.Common.{subst, arith, inl, inr}
-use Rattle.std.specs.Prelude.{Bool, nat_lt, if◌then◌else◌, ◌⊎◌, Option, Some, None, unwrap_or, is_some}
+use Rattle.std.specs.Prelude.{Bool, nat_lt, if◌then◌else◌, ◌⊎◌, Option, Some, None, is_some}
 use Rattle.std.proofs.lemmas.Bool.{cases_order, false≢true, eq-eqb, ne_eqb, lt-ltb, le-ltb}
+use Rattle.std.proofs.lemmas.Option.{same_Some, none-some}
 use Rattle.std.proofs.Math.Seq.{drop-nil}
 use Rattle.std.proofs.lemmas.List.{reverse-append, reverse-reverse}
 use Rattle.fixed_num.specs.Reading.{without_blanks}
@@ -88,19 +89,13 @@ is_before-goes_on cs ds es e f = goes_on (length cs + length ds + length es) cs 
 
 -- places
 
-some_is : (m n : ℕ) → Some m ≡ Some n → m ≡ n
-some_is m n e = ap (λ (o : Option ℕ). unwrap_or o 0) e
-
-none_is : (n : ℕ) → None ≡ Some n → ⊥
-none_is n e = false≢true (ap is_some e)
-
 further_is : (o : Option ℕ) (n : ℕ) → further 1 o ≡ Some n → (m : ℕ) × (o ≡ Some m) × (n ≡ suc m)
-further_is None n e = absurd (none_is n e)
-further_is (Some m) n e = (m, refl, sym (some_is (1 + m) n e) ∙ (let h : 1 + m ≡ suc m = omega arith in h))
+further_is None n e = absurd (none-some n e)
+further_is (Some m) n e = (m, refl, sym (same_Some (1 + m) n e) ∙ (let h : 1 + m ≡ suc m = omega arith in h))
 
 either_place : (b : Bool) (o : Option ℕ) (n : ℕ) → (if b then Some 0 else o) ≡ Some n
     → ((b ≡ true) × (n ≡ 0)) ⊎ ((b ≡ false) × (o ≡ Some n))
-either_place true o n e = inl (refl, sym (some_is 0 n e))
+either_place true o n e = inl (refl, sym (same_Some 0 n e))
 either_place false o n e = inr (refl, e)
 
 pub first_place-there : (part cs : List ℕ) (n : ℕ) → first_place part cs ≡ Some n
@@ -108,7 +103,7 @@ pub first_place-there : (part cs : List ℕ) (n : ℕ) → first_place part cs �
 first_place-there part [] n e =
     elim (either_place (text_begins_with [] part) None n e) [
       | inl w ↦ subst (λ k. text_begins_with (drop k []) part ≡ true) (sym w.1) w.0
-      | inr w ↦ absurd (none_is n w.1)
+      | inr w ↦ absurd (none-some n w.1)
     ]
 first_place-there part (c ∷ cs) n e =
     elim (either_place (text_begins_with (c ∷ cs) part) (further 1 (first_place part cs)) n e) [
@@ -124,7 +119,7 @@ first_place-least part [] n k e less =
     elim (either_place (text_begins_with [] part) None n e) [
       | inl w ↦ absurd (omega (arith, less, w.1))
       | inr w ↦ absurd
-          (none_is n w.1)
+          (none-some n w.1)
     ]
 first_place-least part (c ∷ cs) n zero e less =
     elim (either_place (text_begins_with (c ∷ cs) part) (further 1 (first_place part cs)) n e) [
@@ -142,12 +137,12 @@ first_place-least part (c ∷ cs) n (suc k) e less =
 -- nowhere
 
 none_of : (b : Bool) (o : Option ℕ) → (if b then Some 0 else o) ≡ None → (b ≡ false) × (o ≡ None)
-none_of true o e = absurd (none_is 0 (sym e))
+none_of true o e = absurd (none-some 0 (sym e))
 none_of false o e = (refl, e)
 
 further_none : (o : Option ℕ) → further 1 o ≡ None → o ≡ None
 further_none None e = refl
-further_none (Some m) e = absurd (none_is (1 + m) (sym e))
+further_none (Some m) e = absurd (none-some (1 + m) (sym e))
 
 nowhere : (part cs : List ℕ) → first_place part cs ≡ None → (k : ℕ) → text_begins_with (drop k cs) part ≡ false
 nowhere part [] e k = ap (λ ds. text_begins_with ds part) (drop-nil k) ∙ (none_of (text_begins_with [] part) None e).0
@@ -168,11 +163,11 @@ nowhere-none part cs = (nowhere part cs, λ h. none_found part cs h (first_place
 
 pub zero-none : (o : Option ℕ) → (place_number o ≡ 0) ↔ (o ≡ None)
 zero-none None = (λ e. refl, λ e. refl)
-zero-none (Some m) = (λ e. absurd (omega (arith, e)), λ e. absurd (none_is m (sym e)))
+zero-none (Some m) = (λ e. absurd (omega (arith, e)), λ e. absurd (none-some m (sym e)))
 
 pub false-none : (o : Option ℕ) → (is_some o ≡ false) ↔ (o ≡ None)
 false-none None = (λ e. refl, λ e. refl)
-false-none (Some m) = (λ e. absurd (false≢true (sym e)), λ e. absurd (none_is m (sym e)))
+false-none (Some m) = (λ e. absurd (false≢true (sym e)), λ e. absurd (none-some m (sym e)))
 
 -- texts neither of which is before the other
 

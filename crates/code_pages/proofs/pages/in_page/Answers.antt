@@ -10,7 +10,8 @@ loop-letter-preserved c =
     let parts = c.in-Some.ensures.steps.0 in
     let put : c.push.new.self.items ≡ c.loop-letter.bytes.items ++ c.in-Some-byte_of.byte ∷ [] = search rules in (
       IsUtf8-past_char _ _ c.in-Some.letter held.0 parts,
-      typed_more c.args.page c.loop-letter.bytes.items c.push.new.self.items _ _ _ c.in-Some.letter c.in-Some-byte_of.byte
+      typed_more c.args.page c.loop-letter.bytes.items c.push.new.self.items _ _ _ c.in-Some.letter
+          c.in-Some-byte_of.byte
           (chars_past_char _ _ c.in-Some.letter held.0 parts) c.in-Some-byte_of.ensures.found put held.1,
     )
 
@@ -20,11 +21,13 @@ returns-in_default-clause-lacks c =
     let parts = c.in-Some.ensures.steps.0 in (
       c.loop-letter.bytes.items,
       _,
-      sym held.1 ∙ ap (λ l. page_letters c.args.page c.loop-letter.bytes.items ++ l) (chars_past_char _ _ c.in-Some.letter held.0 parts),
+      sym held.1 ∙ ap (λ l. page_letters c.args.page c.loop-letter.bytes.items ++ l)
+          (chars_past_char _ _ c.in-Some.letter held.0 parts),
       c.byte_of.ensures.only (search rules),
     )
 
 pub returns-clause-letters : goal.returns-clause-letters
 returns-clause-letters c =
     let held = c.loop-letter.invariant in
-    sym (append-nil _) ∙ ap (λ l. page_letters c.args.page c.loop-letter.bytes.items ++ l) (sym (no_letters _ c.in-None.ensures.steps.0.0)) ∙ held.1
+    sym (append-nil _) ∙ ap (λ l. page_letters c.args.page c.loop-letter.bytes.items ++ l)
+    (sym (no_letters _ c.in-None.ensures.steps.0.0)) ∙ held.1

@@ -6,5 +6,8 @@ use Rattle.code_rules.proofs.blocks.place_of.Goals as goal
 
 pub returns : goal.returns
 returns c =
-    let point = IsPartitionPoint-from_clause (λ (m : Map). nat_lt m.place c.args.place) _ _ c.partition_point.ensures.partitioned (parted c.args.maps.now c.requires.0 c.args.place c.requires.1) (λ a r g called. search rules) in
-    found c.args.maps.now 0 c.requires.0 c.args.place c.partition_point.result c.requires.1 (λ k d lt. point.0 k d (omega arith) lt) point.1
+    let point = IsPartitionPoint-from_clause
+    (λ (m : Map). nat_lt m.place c.args.place) _ _ c.partition_point.ensures.partitioned
+    (parted c.args.maps.now c.requires.0 c.args.place c.requires.1) (λ a r g called. search rules) in
+    found c.args.maps.now 0 c.requires.0 c.args.place c.partition_point.result c.requires.1
+    (λ k d lt. point.0 k d (omega arith) lt) point.1

@@ -4,9 +4,15 @@ use Rattle.expr_laws.proofs.laws.expressions_leave_their_values_anywhere.Goals a
 pub returns : goal.returns
 returns c = record {
   world = λ code s w e kind constants block way stands written grown there.
-      (left_anywhere code c.results_have_their_kind.ensures (c.faultless_instructions_are_clear.ensures.faultless code) s w e kind constants block way stands written grown there).world;
+      (left_anywhere code c.results_have_their_kind.ensures
+      (c.faultless_instructions_are_clear.ensures.faultless code) s w e kind constants block way stands written
+      grown there).world;
   steps = λ code s w e kind constants block way stands written grown there.
-      (left_anywhere code c.results_have_their_kind.ensures (c.faultless_instructions_are_clear.ensures.faultless code) s w e kind constants block way stands written grown there).cost;
+      (left_anywhere code c.results_have_their_kind.ensures
+      (c.faultless_instructions_are_clear.ensures.faultless code) s w e kind constants block way stands written
+      grown there).cost;
   kind = λ code s w e kind constants block way stands written grown there.
-      (left_anywhere code c.results_have_their_kind.ensures (c.faultless_instructions_are_clear.ensures.faultless code) s w e kind constants block way stands written grown there).told;
+      (left_anywhere code c.results_have_their_kind.ensures
+      (c.faultless_instructions_are_clear.ensures.faultless code) s w e kind constants block way stands written
+      grown there).told;
 }

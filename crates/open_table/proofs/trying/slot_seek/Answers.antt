@@ -1,13 +1,13 @@
-use Rattle.std.proofs.Common.{◌≡◌, subst}
+use Rattle.std.proofs.Common.{◌≡◌, subst, sym}
 use Rattle.row_keys.specs.Lists.{IndexState, index_list}
+use Rattle.row_moves.specs.Orders.{MayTry, Sees}
 use Rattle.row_moves.specs.Moves.{sought, IsMove}
 use Rattle.open_table.proofs.TryingLemmas.{at_listed, slot_list, from_some}
 use Rattle.open_table.proofs.trying.slot_seek.Goals as goal
 
 pub seek-requires-clause-callable : goal.seek-requires-clause-callable
-seek-requires-clause-callable g c =
-    at_listed c.requires.callable c.requires.few c.index_lists.ensures
-    c.args.table.now.structure c.args.table.now.rows c.args.slot.now c.requires.exact
+seek-requires-clause-callable g c = at_listed (MayTry (goal.F-pre g) c.args.see.now) c.args.table.now.structure
+    c.args.table.now.rows c.args.slot.now c.requires.exact c.requires.callable
 
 pub returns-clause-lands : goal.returns-clause-lands
 returns-clause-lands g c = λ shown sees.
@@ -19,4 +19,4 @@ returns-clause-lands g c = λ shown sees.
     (IsMove (sought shown c.args.exact c.args.text.now pairs) c.args.budget c.seek.result) slot.index
     c.requires.fresh (slot_list s rows slot c.requires.exact) (c.seek.ensures.lands shown)
     (λ x e said. subst (λ ps. IsMove (sought shown c.args.exact c.args.text.now ps) c.args.budget c.seek.result) e
-    (said (λ p there r answer. answer shown sees)))
+    (said (subst (λ ps. Sees (goal.F-post g) c.args.see.now ps shown) (sym e) sees)))

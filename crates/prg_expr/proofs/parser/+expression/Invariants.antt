@@ -26,7 +26,8 @@ abbrev pub decreases-reader : goal.decreases-reader
 decreases-reader l = 20 * length l.tokens.now + 2 * l.level + 1
 
 abbrev pub invariant-chain-loop-operator : goal.invariant-chain-loop-operator
-invariant-chain-loop-operator l = SoFar (spec.level_at l.depth (l.level - 1)) l.level (words l.tokens) (tree_of l.left) (words l.rest) × (length l.rest < length l.tokens)
+invariant-chain-loop-operator l = SoFar (spec.level_at l.depth (l.level - 1)) l.level (words l.tokens) (tree_of l.left)
+    (words l.rest) × (length l.rest < length l.tokens)
 
 abbrev pub decreases-chain-loop-operator : goal.decreases-chain-loop-operator
 decreases-chain-loop-operator l = length l.rest
@@ -41,7 +42,9 @@ abbrev pub decreases-named : goal.decreases-named
 decreases-named l = 20 * length l.tokens.now + 1
 
 abbrev pub invariant-arguments-loop-goes_on : goal.invariant-arguments-loop-goes_on
-invariant-arguments-loop-goes_on l = ArgumentsSoFar (spec.inside l.depth) (spec.arguments (suc (length (words l.tokens))) (spec.inside l.depth) (words l.tokens)) l.goes_on (trees_of l.found.items) (words l.rest) × (length l.rest ≤ length l.tokens)
+invariant-arguments-loop-goes_on l = ArgumentsSoFar (spec.inside l.depth)
+    (spec.arguments (suc (length (words l.tokens))) (spec.inside l.depth) (words l.tokens)) l.goes_on
+    (trees_of l.found.items) (words l.rest) × (length l.rest ≤ length l.tokens)
 
 abbrev pub decreases-arguments-loop-goes_on : goal.decreases-arguments-loop-goes_on
 decreases-arguments-loop-goes_on l = 2 * length l.rest + (if l.goes_on then 1 else 0)

@@ -4,4 +4,5 @@ use Rattle.terminal_screen.specs.Printable.{shown_letter}
 use Rattle.terminal_screen.proofs.printable.put_shown.Given as goal
 
 abbrev pub invariant-loop-byte : goal.invariant-loop-byte
-invariant-loop-byte l = string_bytes l.out ≡ string_bytes l.initial.out ++ flat_map (shown_letter l.page) (take l.byte-index l.bytes)
+invariant-loop-byte l = string_bytes l.out ≡ string_bytes l.initial.out ++ flat_map (shown_letter l.page)
+    (take l.byte-index l.bytes)

@@ -5,7 +5,8 @@ use Rattle.xverify.proofs.verifying.test_rules.Goals as goal
 
 pub loop-place-init : goal.loop-place-init
 loop-place-init c = record {
-  incoming = c.in-Ok.ensures ∙ (ap (λ b. start_of c.args.code.now b.number) c.block_at-first.ensures ∙ sym (first_found c.args.code.now));
+  incoming = c.in-Ok.ensures ∙ (ap (λ b. start_of c.args.code.now b.number) c.block_at-first.ensures
+      ∙ sym (first_found c.args.code.now));
   before = λ p lt. absurd (omega (arith, lt));
 }
 

@@ -18,7 +18,9 @@ none_more zero (x ∷ r) e = absurd (cc)
 none_more (suc n) [] e = refl
 none_more (suc n) (x ∷ r) e = none_more n r e
 
-popped : (o : Option Kind) (old new r : List Kind) (n a b : ℕ) → a ≡ length old → b ≡ length new → reverse old ≡ drop n r → old ≡ new ++ option_to_list o → MatchOption o ((a ≡ 0) × (b ≡ 0)) (λ _. b + 1 ≡ a) → reverse new ≡ drop (suc n) r
+popped : (o : Option Kind) (old new r : List Kind) (n a b : ℕ) → a ≡ length old → b ≡ length new
+    → reverse old ≡ drop n r → old ≡ new ++ option_to_list o → MatchOption o ((a ≡ 0) × (b ≡ 0)) (λ _. b + 1 ≡ a)
+    → reverse new ≡ drop (suc n) r
 popped None [] [] r n a b ea eb e f m = none_more n r e
 popped None [] (x ∷ new) r n a b ea eb e f m = absurd (omega (arith, m.1, eb))
 popped None (x ∷ old) new r n a b ea eb e f m = absurd (omega (arith, m.0, ea))
@@ -27,4 +29,6 @@ popped (Some v) old new r n a b ea eb e f m =
     one_more n r v (reverse new) g
 
 pub loop-preserved : goal.loop-preserved
-loop-preserved c = rw add-one (popped c.pop.result c.loop.self-inside.kinds.items c.pop.new.self.items (reverse c.self.inside.kinds.items) c.loop.counter _ _ (omega (arith, c.loop.self-inside.kinds.ok)) (omega (arith, c.pop.new.self.ok)) c.loop.invariant c.pop.ensures.items c.pop.ensures.cases)
+loop-preserved c = rw add-one (popped c.pop.result c.loop.self-inside.kinds.items c.pop.new.self.items
+    (reverse c.self.inside.kinds.items) c.loop.counter _ _ (omega (arith, c.loop.self-inside.kinds.ok))
+    (omega (arith, c.pop.new.self.ok)) c.loop.invariant c.pop.ensures.items c.pop.ensures.cases)
