@@ -2,6 +2,7 @@
 
 ghost use Rattle.std.specs.Prelude.{◌≡◌, ◌++◌, ℕ, List, IfOk, OnOk, OnErr};
 ghost use Rattle.line_journal.specs.Kept.{ended_by_lf};
+ghost use Rattle.line_journal.specs.declared.kept.NotKept.TheVariants.{Memory as OfMemory};
 
 use std::alloc::AllocError;
 use std::marker::Model;
@@ -55,6 +56,8 @@ pub enum NotKept {
 }
 
 impl From<AllocError> for NotKept {
+    ghost from_gives = { λ _ e. e ≡ OfMemory };
+
     fn from(_: AllocError) -> NotKept {
         NotKept::Memory
     }

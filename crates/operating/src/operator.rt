@@ -1,6 +1,7 @@
 //! Who types the lines of a run, and what is seen of it.
 
 ghost use Rattle.operating.specs.Answers.{answer_bytes};
+ghost use Rattle.operating.specs.declared.operator.Broken.TheVariants.{Memory as OfMemory};
 ghost use Rattle.std.specs.Prelude.{◌≡◌, ◌++◌, ℕ, List, IfOk, OnErr};
 
 use code_items::Code;
@@ -84,6 +85,8 @@ pub enum Broken {
 }
 
 impl From<AllocError> for Broken {
+    ghost from_gives = { λ _ e. e ≡ OfMemory };
+
     fn from(_: AllocError) -> Broken {
         Broken::Memory
     }
