@@ -73,14 +73,7 @@ fn run_on<K: KeyList>(
                 steps: steps + 1,
             };
         }
-        match execute(
-            alloc,
-            code,
-            &filters,
-            machine,
-            instr,
-            budget - steps,
-        ) {
+        match execute(alloc, code, &filters, machine, instr, budget - steps) {
             Ok(cost) => {
                 steps += cost;
                 scratch.areas.follow(machine.env.store(), instr);
