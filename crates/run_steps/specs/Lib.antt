@@ -7,6 +7,7 @@ pub mod Needs
 pub mod Opening
 pub mod Pausing
 pub mod Leading
+pub mod Machines
 pub mod Blocks
 pub mod Registers
 pub mod Tables

@@ -7,11 +7,11 @@ ghost use Rattle.code_items.specs.declared.instr.Instr.TheVariants.{Flow as OfFl
 ghost use Rattle.run_values.specs.Tagged.{TaggedValues};
 ghost use Rattle.run_steps.specs.Control.{flow_place as flow_place_of};
 ghost use Rattle.run_steps.specs.Control.{place_after as place_after_of, returns_after};
-ghost use Rattle.run_steps.specs.Executed.{Executed, Stepped};
+ghost use Rattle.run_steps.specs.Executed.{Executed};
+ghost use Rattle.run_steps.specs.Machines.{StandsFor, StepsMachine};
 ghost use Rattle.run_steps.specs.Needs.{FlowNeeds, JumpNeeds, Needs, CallFits, IsReadyFor};
 ghost use Rattle.run_steps.specs.Opening.{no_values, opening};
 ghost use Rattle.run_steps.specs.RowWorks.{AreRowWorks};
-ghost use Rattle.run_steps.specs.Run.{StandsForWorld};
 ghost use Rattle.screen_lines.specs.State.{sent};
 ghost use Rattle.run_steps.specs.World.{World, EnvState};
 
@@ -56,8 +56,7 @@ impl<V: Values, K: KeyList> Machine<V, K> {
         today: Day,
     ) -> Result<Self, AllocError>
         ensures { (code : AnyCode) → V.stands values (no_values code)
-            → IfOk result (λ machine. StandsForWorld (V.stands machine.values) machine.place machine.returns machine.env
-            (opening code store lines today)) }
+            → IfOk result (λ machine. StandsFor V.stands machine (opening code store lines today)) }
     {
         let mut store = store;
         store.close_all();
@@ -202,13 +201,9 @@ pub fn execute<V: Values, K: KeyList>(
 ) -> Result<u64, Stop>
     requires legal { IsCode code.now }
     requires filters { AreRowWorks code.now filters.now }
-    requires ready { (w : World)
-        × (StandsForWorld (V.stands machine.old.values) machine.old.place machine.old.returns machine.old.env w
-        × IsReadyFor code.now w instr) }
-    ensures { (w : World) → StandsForWorld (V.stands machine.old.values) machine.old.place machine.old.returns
-        machine.old.env w → IsReadyFor code.now w instr
-        → Stepped code.now w instr left result
-        (V.stands machine.new.values) machine.new.place machine.new.returns machine.new.env }
+    requires ready { (w : World) × (StandsFor V.stands machine.old w × IsReadyFor code.now w instr) }
+    ensures { (w : World) → StandsFor V.stands machine.old w → IsReadyFor code.now w instr
+        → StepsMachine code.now w instr left result V.stands machine.new }
 {
     let place = place_after(
         code,
