@@ -24,7 +24,7 @@ use crate::on_records::on_records;
 use crate::on_screen::on_screen;
 use crate::on_values::on_values;
 use crate::returns::ReturnPlaces;
-use crate::row_works::Filters;
+use crate::row_works::FilterWorks;
 use calendar::Day;
 use code_items::Code;
 use code_items::instr::{FlowInstr, Instr};
@@ -153,7 +153,7 @@ fn on_flow<V: Values>(values: &mut V, instr: FlowInstr, left: u64) -> Result<u64
 fn carry_out<V: Values, K: KeyList>(
     alloc: Global,
     code: &Code,
-    filters: &Filters,
+    filters: &FilterWorks,
     values: &mut V,
     env: &mut Environment<K>,
     instr: Instr,
@@ -194,7 +194,7 @@ fn turn(returns: &mut ReturnPlaces, place: usize, instr: Instr)
 pub fn execute<V: Values, K: KeyList>(
     alloc: Global,
     code: &Code,
-    filters: &Filters,
+    filters: &FilterWorks,
     machine: &mut Machine<V, K>,
     instr: Instr,
     left: u64,

@@ -20,7 +20,7 @@ ghost use Rattle.run_steps.specs.Walking.{HasWalked, HasChanged};
 use crate::ending::Stop;
 use crate::environment::Environment;
 use crate::filtering::View;
-use crate::row_works::Filters;
+use crate::row_works::FilterWorks;
 use code_items::Code;
 use code_items::instr::MoveInstr;
 use key_lists::KeyList;
@@ -201,7 +201,7 @@ fn look_and_walk<V: Values, K: KeyList>(
 /// Carries out a move.
 pub fn on_moves<V: Values, K: KeyList>(
     code: &Code,
-    filters: &Filters,
+    filters: &FilterWorks,
     values: &mut V,
     env: &mut Environment<K>,
     instr: MoveInstr,

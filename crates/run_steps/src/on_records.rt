@@ -25,7 +25,7 @@ use crate::environment::Environment;
 use crate::filtering::View;
 use crate::on_areas::{list_of, refused};
 use crate::row_values::lent_field;
-use crate::row_works::Filters;
+use crate::row_works::FilterWorks;
 use code_items::Code;
 use code_items::instr::{Question, RecordInstr};
 use key_lists::KeyList;
@@ -221,7 +221,7 @@ fn look_and_close<V: Values, K: KeyList>(
 fn close<V: Values, K: KeyList>(
     alloc: Global,
     code: &Code,
-    filters: &Filters,
+    filters: &FilterWorks,
     values: &V,
     env: &mut Environment<K>,
     instr: RecordInstr,
@@ -244,7 +244,7 @@ fn close<V: Values, K: KeyList>(
 pub fn on_records<V: Values, K: KeyList>(
     alloc: Global,
     code: &Code,
-    filters: &Filters,
+    filters: &FilterWorks,
     values: &mut V,
     env: &mut Environment<K>,
     instr: RecordInstr,

@@ -23,7 +23,7 @@ use run_laws::laws::{
     safe_runs_meet_no_fault, steps_keep_the_shape,
 };
 use run_steps::running::finishes;
-use run_steps::{End, Filters, Machine, Outcome, execute};
+use run_steps::{End, FilterWorks, Machine, Outcome, execute};
 use run_values::Tagged;
 use std::alloc::Global;
 
@@ -49,7 +49,7 @@ fn run_on<K: KeyList>(
     faultless_worlds_go_on();
     steps_keep_the_shape();
     let places = places_of_blocks(code.procedures.as_slice());
-    let filters = Filters::of(alloc, code);
+    let filters = FilterWorks::of(alloc, code);
     let mut steps = 0;
     scratch.areas.show(machine.env.store());
     loop {
