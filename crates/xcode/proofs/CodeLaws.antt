@@ -52,7 +52,8 @@ Lists = List TableShape × (List IndexShape × (List IndexList × (List Value ×
 abbrev lists_of : Declared → Lists
 lists_of d = (d.shape.tables, (d.shape.indexes, (d.lists, (d.constants, d.filters))))
 
-abbrev pub Sections : Header → Lists → (TableShape → Type 0) → (IndexShape → Type 0) → (IndexList → Type 0) → (Filter → Type 0) → Type 0
+abbrev pub Sections : Header → Lists → (TableShape → Type 0) → (IndexShape → Type 0) → (IndexList → Type 0)
+    → (Filter → Type 0) → Type 0
 Sections h (tables, (indexes, (lists, (constants, filters)))) T I L F =
     AreItems h.counts.tables is_next_table T tables
     × (AreItems h.counts.indexes (is_next_index tables) I indexes
@@ -93,7 +94,8 @@ BodySections c d (procedures, (maps, instructions)) P M =
     × AreItems c.instructions always (IsLegalInstr d.version) instructions)
 
 abbrev pub BodyFits : Counts → Declared → Code → Type 0
-BodyFits c d code = (code_from d (body_of code) ≡ code) × BodySections c d (body_of code) (ProcedureFits d.version d.slots) (MapFits d.version d.slots)
+BodyFits c d code = (code_from d (body_of code) ≡ code)
+    × BodySections c d (body_of code) (ProcedureFits d.version d.slots) (MapFits d.version d.slots)
 
 abbrev pub BodyRead : Counts → Declared → Code → Type 0
 BodyRead c d code = (code_from d (body_of code) ≡ code) × BodySections c d (body_of code) Any Any
@@ -120,12 +122,43 @@ pub record WholeRead (code : Code) : Type 0 where
   pub declared : DeclaredRead (header_of code) code.declared
   pub body : BodyRead (counts_of code) code.declared code
 
-headers : (v v' : Version) (a a' b b' c c' d d' e e' f f' g g' h h' i i' j j' : ℕ) → v ≡ v' → a ≡ a' → b ≡ b' → c ≡ c' → d ≡ d' → e ≡ e' → f ≡ f' → g ≡ g' → h ≡ h' → i ≡ i' → j ≡ j'
-    → (λ (v : Version) (a b c d e f g h i j : ℕ). let made : Header = record { version = v; counts = record { stack_bound = a; slots = b; tables = c; indexes = d; lists = e; constants = f; filters = g; procedures = h; maps = i; instructions = j } } in made) v a b c d e f g h i j
-    ≡ record { version = v'; counts = record { stack_bound = a'; slots = b'; tables = c'; indexes = d'; lists = e'; constants = f'; filters = g'; procedures = h'; maps = i'; instructions = j' } }
-headers v v' a a' b b' c c' d d' e e' f f' g g' h h' i i' j j' p0 p1 p2 p3 p4 p5 p6 p7 p8 p9 p10 = rw (p0, p1, p2, p3, p4, p5, p6, p7, p8, p9, p10) refl
+headers : (v v' : Version) (a a' b b' c c' d d' e e' f f' g g' h h' i i' j j' : ℕ) → v ≡ v' → a ≡ a' → b ≡ b' → c ≡ c'
+    → d ≡ d' → e ≡ e' → f ≡ f' → g ≡ g' → h ≡ h' → i ≡ i' → j ≡ j'
+    → (λ (v : Version) (a b c d e f g h i j : ℕ). let made : Header = record {
+      version = v;
+      counts = record {
+        stack_bound = a;
+        slots = b;
+        tables = c;
+        indexes = d;
+        lists = e;
+        constants = f;
+        filters = g;
+        procedures = h;
+        maps = i;
+        instructions = j;
+      };
+    } in made) v a b c d e f g h i j
+    ≡ record {
+      version = v';
+      counts = record {
+        stack_bound = a';
+        slots = b';
+        tables = c';
+        indexes = d';
+        lists = e';
+        constants = f';
+        filters = g';
+        procedures = h';
+        maps = i';
+        instructions = j';
+      };
+    }
+headers v v' a a' b b' c c' d d' e e' f f' g g' h h' i i' j j' p0 p1 p2 p3 p4 p5 p6 p7 p8 p9 p10 =
+    rw (p0, p1, p2, p3, p4, p5, p6, p7, p8, p9, p10) refl
 
-header_is : (h : Header) (code : Code) → DeclaredRead h code.declared → BodyRead h.counts code.declared code → header_of code ≡ h
+header_is : (h : Header) (code : Code) → DeclaredRead h code.declared → BodyRead h.counts code.declared code
+    → header_of code ≡ h
 header_is h code (declared, (tables, (indexes, (lists, (constants, filters)))))
     (body, (procedures, (maps, instructions))) =
     headers code.declared.version h.version
@@ -143,7 +176,9 @@ header_is h code (declared, (tables, (indexes, (lists, (constants, filters)))))
     (sym (ap (λ (x : Declared). x.slots) declared))
     tables.0 indexes.0 lists.0 constants.0 filters.0 procedures.0 maps.0 instructions.0
 
-whole_was : (h : Header) (d : Declared) (code : Code) → CountsRead h.counts → DeclaredRead h d → BodyRead h.counts d code → (header_text h ++ (declared_text d ++ body_text code) ≡ code_text code) × WholeRead code
+whole_was : (h : Header) (d : Declared) (code : Code) → CountsRead h.counts → DeclaredRead h d
+    → BodyRead h.counts d code → (header_text h ++ (declared_text d ++ body_text code) ≡ code_text code)
+    × WholeRead code
 unfolding code_text
 whole_was h d code within dr br =
     let same_d : d ≡ code.declared = ap (λ (c : Code). c.declared) br.0 in
@@ -158,8 +193,10 @@ whole_was h d code within dr br =
       },
     )
   where
-    text : (h : Header) (d : Declared) (code : Code) → h ≡ header_of code → d ≡ code.declared → header_text h ++ (declared_text d ++ body_text code) ≡ code_text code
-    text h d code e f = ap (λ (x : Header). header_text x ++ (declared_text d ++ body_text code)) e ∙ ap (λ (x : Declared). header_text (header_of code) ++ (declared_text x ++ body_text code)) f
+    text : (h : Header) (d : Declared) (code : Code) → h ≡ header_of code → d ≡ code.declared
+        → header_text h ++ (declared_text d ++ body_text code) ≡ code_text code
+    text h d code e f = ap (λ (x : Header). header_text x ++ (declared_text d ++ body_text code)) e
+        ∙ ap (λ (x : Declared). header_text (header_of code) ++ (declared_text x ++ body_text code)) f
 
 pub whole_spelled : ItemLaws → IsSpelled whole_at code_text WholeFits WholeRead
 unfolding whole_at code_text

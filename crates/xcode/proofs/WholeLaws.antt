@@ -23,18 +23,21 @@ use Rattle.xcode.proofs.PartLaws.{checked_spelled}
 
 -- ---- numbers of the header
 
-surely : {A : Type 0} (front : Front A) (x : A) (rest : List ℕ) → read_behind {B = Judged A} front (λ y. give (done y)) ≡ Some (Ok x, rest) → front ≡ Some (x, rest)
+surely : {A : Type 0} (front : Front A) (x : A) (rest : List ℕ) → read_behind {B = Judged A} front (λ y. give (done y))
+    ≡ Some (Ok x, rest) → front ≡ Some (x, rest)
 surely None x rest e = absurd cc
 surely {A} (Some p) x rest e =
     let same : (done p.0, p.1) ≡ (done x, rest) = some_is {A = Judged A × List ℕ} (done p.0, p.1) (done x, rest) e in
     ap (λ (y : A). Some (y, p.1)) (ok_is p.0 x (ap (λ (q : Judged A × List ℕ). q.0) same))
     ∙ ap (λ (l : List ℕ). Some (x, l)) (ap (λ (q : Judged A × List ℕ). q.1) same)
 
-there_fine : {A : Type 0} (fault : CodeFault) (front : Front A) (x : A) (rest : List ℕ) → there_or fault front ≡ Ok (x, rest) → read_behind {B = Judged A} front (λ y. give (done y)) ≡ Some (Ok x, rest)
+there_fine : {A : Type 0} (fault : CodeFault) (front : Front A) (x : A) (rest : List ℕ)
+    → there_or fault front ≡ Ok (x, rest) → read_behind {B = Judged A} front (λ y. give (done y)) ≡ Some (Ok x, rest)
 there_fine fault None x rest e = absurd cc
 there_fine {A} fault (Some p) x rest e = ap (λ (q : A × List ℕ). Some (done q.0, q.1)) (fine_is p (x, rest) e)
 
-there_bad : {A : Type 0} (fault : CodeFault) (front : Front A) (e : CodeFault) → there_or fault front ≡ Err e → fault ≡ e
+there_bad : {A : Type 0} (fault : CodeFault) (front : Front A) (e : CodeFault) → there_or fault front ≡ Err e
+    → fault ≡ e
 there_bad {A} fault None e h = bad_is {A = A × List ℕ} fault e h
 there_bad fault (Some p) e h = absurd (not_both p e h)
 
@@ -43,7 +46,8 @@ there_spelled : {A : Type 0} (r : Reader A) {t : A → List ℕ} {P G : A → Ty
 there_spelled {A} r {t} {P} {G} law fault brief = record {
   again = λ x rest h. rw (surely (r (t x ++ rest)) x rest (law.again x rest h)) refl;
   takes = λ bytes rest x fit e. law.takes bytes rest x fit (there_fine fault (r bytes) x rest e);
-  stays = λ bytes more rest x e. rw (surely (r (bytes ++ more)) x (rest ++ more) (law.steady.stays bytes more rest (Ok x) (there_fine fault (r bytes) x rest e))) refl;
+  stays = λ bytes more rest x e. rw (surely (r (bytes ++ more)) x (rest ++ more)
+      (law.steady.stays bytes more rest (Ok x) (there_fine fault (r bytes) x rest e))) refl;
   fails = λ bytes more f lasts e. absurd (brief (subst Lasts (sym (there_bad fault (r bytes) f e)) lasts));
 }
 
@@ -60,16 +64,33 @@ unfolding number_at_front
 number_spelled laws = there_spelled (number_read_at w16) laws.two Short (λ h. h)
 
 abbrev pub CountsFit : Counts → Type 0
-CountsFit c = Small c.stack_bound × (Small c.slots × (Small c.tables × (Small c.indexes × (Small c.lists × (Small c.constants × (Small c.filters × (Small c.procedures × (Small c.maps × Small c.instructions))))))))
+CountsFit c = Small c.stack_bound
+    × (Small c.slots × (Small c.tables
+    × (Small c.indexes × (Small c.lists
+    × (Small c.constants × (Small c.filters × (Small c.procedures × (Small c.maps × Small c.instructions))))))))
 
 counts_spelled : NumberLaws → IsSpelled counts_at counts_text CountsFit (λ c. Small c.instructions)
 unfolding counts_at
 counts_spelled laws =
     let n = number_spelled laws in
-    shaped_spelled (joint_spelled n (λ _. joint_spelled n (λ _. joint_spelled n (λ _. joint_spelled n (λ _. joint_spelled n (λ _. joint_spelled n (λ _. joint_spelled n (λ _. joint_spelled n (λ _. joint_spelled n (λ _. n))))))))))
+    shaped_spelled (joint_spelled n (λ _. joint_spelled n
+    (λ _. joint_spelled n (λ _. joint_spelled n
+    (λ _. joint_spelled n (λ _. joint_spelled n
+    (λ _. joint_spelled n (λ _. joint_spelled n (λ _. joint_spelled n (λ _. n))))))))))
     counts_from counts_text CountsFit (λ c. Small c.instructions)
     (λ x (_, (_, (_, (_, (_, (_, (_, (_, (_, instructions))))))))). (refl, instructions))
-    (λ c h. ((c.stack_bound, (c.slots, (c.tables, (c.indexes, (c.lists, (c.constants, (c.filters, (c.procedures, (c.maps, c.instructions))))))))), h, refl, refl))
+    (λ c h. (
+      (
+        c.stack_bound,
+        (
+          c.slots,
+          (c.tables, (c.indexes, (c.lists, (c.constants, (c.filters, (c.procedures, (c.maps, c.instructions))))))),
+        ),
+      ),
+      h,
+      refl,
+      refl,
+    ))
 
 abbrev pub WithinLimits : Counts → Type 0
 WithinLimits c = within_limits c ≡ true
@@ -85,9 +106,11 @@ limited_spelled laws = checked_spelled (counts_spelled laws) Limit within_limits
 abbrev IsMagic : ℕ → Type 0
 IsMagic n = (n == 0x46434258) ≡ true
 
-magic_spelled : NumberLaws → IsSpelled magic_at (to_le_bytes w32) (λ n. (n < 2 ^ 32) × IsMagic n) (λ n. (n < 2 ^ 32) × IsMagic n)
+magic_spelled : NumberLaws → IsSpelled magic_at (to_le_bytes w32) (λ n. (n < 2 ^ 32) × IsMagic n)
+    (λ n. (n < 2 ^ 32) × IsMagic n)
 unfolding magic_at
-magic_spelled laws = checked_spelled (there_spelled (number_read_at w32) laws.four Magic (λ h. h)) Magic (λ n. n == 0x46434258)
+magic_spelled laws = checked_spelled (there_spelled (number_read_at w32) laws.four Magic (λ h. h)) Magic
+    (λ n. n == 0x46434258)
 
 version_was : (n : ℕ) (v : Version) → version_from n ≡ Ok v → n ≡ version_number v
 version_was n v e = first (eqb n 1) refl e
@@ -96,7 +119,8 @@ version_was n v e = first (eqb n 1) refl e
     second true is e = eqb-true n 2 is ∙ ap version_number (fine_is Two v e)
     second false is e = absurd cc
 
-    first : (b : Bool) → eqb n 1 ≡ b → cond b (Ok One) (cond (eqb n 2) (Ok Two) (bad OtherVersion)) ≡ Ok v → n ≡ version_number v
+    first : (b : Bool) → eqb n 1 ≡ b → cond b (Ok One) (cond (eqb n 2) (Ok Two) (bad OtherVersion)) ≡ Ok v
+        → n ≡ version_number v
     first true is e = eqb-true n 1 is ∙ ap version_number (fine_is One v e)
     first false is e = second (eqb n 2) refl e
 
@@ -106,7 +130,8 @@ version_is Two = (omega arith, refl)
 
 version_spelled : NumberLaws → IsSpelled version_at (λ v. two (version_number v)) Any Any
 unfolding version_at
-version_spelled laws = made_spelled (there_spelled (number_read_at w16) laws.two OtherVersion (λ h. h)) version_from (λ v. two (version_number v)) Any Any
+version_spelled laws = made_spelled (there_spelled (number_read_at w16) laws.two OtherVersion (λ h. h)) version_from
+    (λ v. two (version_number v)) Any Any
     (λ n v h e. (ap two (version_was n v e), tt))
     (λ v h. (version_number v, (version_is v).0, (version_is v).1, refl))
 

@@ -32,19 +32,23 @@ use Rattle.xcode.proofs.AgainLaws.{keeps, small}
 few_fields : (t : TableShape) → is_table t ≡ true → length t.fields < 256
 unfolding is_table are_fields
 few_fields t h =
-    let few = leb-true (length t.fields) 128 (second_true _ _ (first_true _ _ (first_true _ _ (second_true _ _ (first_true _ _ h))))) in
+    let few = leb-true (length t.fields) 128
+    (second_true _ _ (first_true _ _ (first_true _ _ (second_true _ _ (first_true _ _ h))))) in
     omega (arith, few)
 
 tables_write : (earlier ts : List TableShape) → tables_go_on earlier ts ≡ true → All (λ t. length t.fields < 256) ts
 unfolding is_next_table
 tables_write earlier [] h = All-nil (λ t. length t.fields < 256)
-tables_write earlier (t ∷ ts) h = All-cons (λ t. length t.fields < 256) t ts (few_fields t (first_true _ _ (first_true _ _ h))) (tables_write (earlier ++ t ∷ []) ts (second_true _ _ h))
+tables_write earlier (t ∷ ts) h = All-cons (λ t. length t.fields < 256) t ts
+    (few_fields t (first_true _ _ (first_true _ _ h))) (tables_write (earlier ++ t ∷ []) ts (second_true _ _ h))
 
-filters_write : (tables slots : ℕ) (fs : List Filter) → slots ≤ 256 → list_all (is_filter tables slots) fs ≡ true → All (λ f. length f.needs < 2 ^ 16) fs
+filters_write : (tables slots : ℕ) (fs : List Filter) → slots ≤ 256 → list_all (is_filter tables slots) fs ≡ true
+    → All (λ f. length f.needs < 2 ^ 16) fs
 filters_write tables slots [] few h = All-nil (λ f. length f.needs < 2 ^ 16)
 filters_write tables slots (f ∷ fs) few h =
     let needs = needs_few 0 slots f.needs (second_true _ _ (first_true _ _ h)) in
-    All-cons (λ f. length f.needs < 2 ^ 16) f fs (omega (arith, needs, few)) (filters_write tables slots fs few (second_true _ _ h))
+    All-cons (λ f. length f.needs < 2 ^ 16) f fs (omega (arith, needs, few))
+    (filters_write tables slots fs few (second_true _ _ h))
 
 -- numbers of lists and filters
 
@@ -52,7 +56,8 @@ list_named : (d : Declared) (table list : ℕ) → is_list_of d table list ≡ t
 list_named d table zero h = omega arith
 list_named d table (suc n) h = named (slice_get d.lists n) refl h
   where
-    named : (o : Option IndexList) → slice_get d.lists n ≡ o → lists_table d.shape.indexes table o ≡ true → suc n ≤ length d.lists
+    named : (o : Option IndexList) → slice_get d.lists n ≡ o → lists_table d.shape.indexes table o ≡ true
+        → suc n ≤ length d.lists
     named None e h = absurd cc
     named (Some l) e h = let lt = slice_get_within d.lists n l e in omega (arith, lt)
 
@@ -91,8 +96,12 @@ area_writes d (Open a) few h =
     let table = ltb-true a.table (length d.shape.tables) r.0 in
     let order = leb-true a.order (opened_by d a.list) q.1 in
     let most = opened_few d few.each a.list in
-    let t = few.tables in
-    (omega (arith, table, t), list_small (either_true (eqb a.list 0) (is_list_of d a.table a.list) r.1), omega (arith, order, most), filter_small (either_true (eqb a.filter 0) (is_filter_of d a.table a.filter) p.1))
+    let t = few.tables in (
+      omega (arith, table, t),
+      list_small (either_true (eqb a.list 0) (is_list_of d a.table a.list) r.1),
+      omega (arith, order, most),
+      filter_small (either_true (eqb a.filter 0) (is_filter_of d a.table a.filter) p.1),
+    )
   where
     list_small : (eqb a.list 0 ≡ true) ⊎ (is_list_of d a.table a.list ≡ true) → a.list < 256
     list_small (inl e) = let z = eqb-true a.list 0 e in omega (arith, z)
@@ -103,34 +112,52 @@ area_writes d (Open a) few h =
     filter_small (inr e) = let n = filter_named d a.table a.filter e in let l = few.filters in omega (arith, n, l)
 area_writes d Unsure few h = tt
 
-areas_write : (d : Declared) (areas : List AreaState) → Few d → list_all (is_area_state d) areas ≡ true → All AreaFitsBytes areas
+areas_write : (d : Declared) (areas : List AreaState) → Few d → list_all (is_area_state d) areas ≡ true
+    → All AreaFitsBytes areas
 areas_write d [] few h = All-nil AreaFitsBytes
-areas_write d (a ∷ areas) few h = All-cons AreaFitsBytes a areas (area_writes d a few (first_true _ _ h)) (areas_write d areas few (second_true _ _ h))
+areas_write d (a ∷ areas) few h = All-cons AreaFitsBytes a areas (area_writes d a few (first_true _ _ h))
+    (areas_write d areas few (second_true _ _ h))
 
 state_writes : (d : Declared) (s : State) → Few d → is_state d s ≡ true → StateFitsBytes s
 unfolding is_state is_desk
 state_writes d s few h =
     let height = leb-true (length s.stack) d.stack_bound (second_true _ _ h) in
     let bound = few.bound in
-    record { areas = areas_write d s.desk.areas few (second_true _ _ (first_true _ _ (first_true _ _ h))); height = omega (arith, height, bound) }
+    record {
+      areas = areas_write d s.desk.areas few (second_true _ _ (first_true _ _ (first_true _ _ h)));
+      height = omega (arith, height, bound);
+    }
 
-procedures_write : (d : Declared) (ps : List Proc) → Few d → list_all (is_procedure d) ps ≡ true → All ProcedureFitsBytes ps
+procedures_write : (d : Declared) (ps : List Proc) → Few d → list_all (is_procedure d) ps ≡ true
+    → All ProcedureFitsBytes ps
 unfolding is_procedure
 procedures_write d [] few h = All-nil ProcedureFitsBytes
 procedures_write d (p ∷ ps) few h =
     let states = first_true _ _ (first_true _ _ (first_true _ _ h)) in
-    All-cons ProcedureFitsBytes p ps (record { entry = state_writes d p.entry few (second_true _ _ (first_true _ _ states)); exit = state_writes d p.exit few (second_true _ _ states) }) (procedures_write d ps few (second_true _ _ h))
+    All-cons ProcedureFitsBytes p ps
+    (record {
+      entry = state_writes d p.entry few (second_true _ _ (first_true _ _ states));
+      exit = state_writes d p.exit few (second_true _ _ states);
+    }) (procedures_write d ps few (second_true _ _ h))
 
-maps_write : (d : Declared) (ms : List Map) → Few d → list_all (is_map d) ms ≡ true → All (λ m. StateFitsBytes m.state) ms
+maps_write : (d : Declared) (ms : List Map) → Few d → list_all (is_map d) ms ≡ true
+    → All (λ m. StateFitsBytes m.state) ms
 maps_write d [] few h = All-nil (λ m. StateFitsBytes m.state)
-maps_write d (m ∷ ms) few h = All-cons (λ m. StateFitsBytes m.state) m ms (state_writes d m.state few (first_true _ _ h)) (maps_write d ms few (second_true _ _ h))
+maps_write d (m ∷ ms) few h = All-cons (λ m. StateFitsBytes m.state) m ms
+    (state_writes d m.state few (first_true _ _ h)) (maps_write d ms few (second_true _ _ h))
 
 pub writable : (code : Code) → is_code code ≡ true → Writable code
 writable code h =
     let k = keeps code h in
     let e = k.declared in
     let d = code.declared in
-    let few : Few d = record { tables = leb-true (length d.shape.tables) 32 e.few_tables; lists = leb-true (length d.lists) 64 e.few_lists; filters = leb-true (length d.filters) 64 e.few_filters; bound = leb-true d.stack_bound 64 e.stack_bound; each = lists_fit d.shape.indexes d.lists e.lists } in
+    let few : Few d = record {
+      tables = leb-true (length d.shape.tables) 32 e.few_tables;
+      lists = leb-true (length d.lists) 64 e.few_lists;
+      filters = leb-true (length d.filters) 64 e.few_filters;
+      bound = leb-true d.stack_bound 64 e.stack_bound;
+      each = lists_fit d.shape.indexes d.lists e.lists;
+    } in
     record {
       tables = small (length d.shape.tables) 32 (omega arith) e.few_tables;
       indexes = small (length d.shape.indexes) 64 (omega arith) e.few_indexes;

@@ -17,8 +17,10 @@ returns-in-Ok-clause-found c =
 pub returns-in-Ok-clause-only : goal.returns-in-Ok-clause-only
 returns-in-Ok-clause-only c = λ code text.
     let made : code_at c.args.bytes.now ≡ Ok c.of.result = c.in-Ok.ensures ∙ ap Ok (sym c.of.ensures) in
-    subst (λ (read : Result Code CodeFault). read ≡ Ok c.of.result) (c.files_are_of_their_codes.ensures.only c.args.bytes.now code text) made
+    subst (λ (read : Result Code CodeFault). read ≡ Ok c.of.result)
+    (c.files_are_of_their_codes.ensures.only c.args.bytes.now code text) made
 
 pub returns-in-Err-clause-only : goal.returns-in-Err-clause-only
 returns-in-Err-clause-only c = λ code text.
-    subst (λ (read : Result Code CodeFault). FileFails c.in-Err.fault read) (c.files_are_of_their_codes.ensures.only c.args.bytes.now code text) c.in-Err.ensures
+    subst (λ (read : Result Code CodeFault). FileFails c.in-Err.fault read)
+    (c.files_are_of_their_codes.ensures.only c.args.bytes.now code text) c.in-Err.ensures
