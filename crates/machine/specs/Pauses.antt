@@ -1,12 +1,12 @@
 -- How far a run of accepted code goes on until a line of the operator is wanted.
-use Rattle.std.specs.Prelude.{◌≡◌, ◌<◌, ◌≤◌, ◌-◌, ℕ, List, Bool, true, Some, length, slice_get}
+use Rattle.std.specs.Prelude.{◌≡◌, ◌<◌, ◌≤◌, ◌-◌, ℕ, suc, List, Bool, true, Some, length, slice_get}
 use Rattle.shape.specs.declared.whole.Shape.{Shape}
 use Rattle.work_area.specs.Areas.{OpenIndexesList}
 use Rattle.work_area.specs.Shapes.{StoreHasShape}
 use Rattle.code_items.specs.declared.code.Code.{Code}
 use Rattle.run_steps.specs.declared.pausing.Leg.{Leg}
 use Rattle.run_steps.specs.declared.pausing.Leg.TheVariants.{Ended, Waits, Marked}
-use Rattle.run_steps.specs.Pausing.{Came, FindsLines, is_dry}
+use Rattle.run_steps.specs.Pausing.{Came, FindsLines, PassesNoMark, is_dry}
 use Rattle.run_steps.specs.Run.{after, step_of, cost_of, IsNoFault}
 use Rattle.run_steps.specs.Shapes.{StoreFits}
 use Rattle.run_steps.specs.World.{World}
@@ -34,12 +34,19 @@ pub record PausesAt (code : Code) (from : World) (budget steps : ℕ) (b : BankS
   pub as_declared : StoreFits code.declared b.env.store
   pub goes_on : Twin code world b
 
--- it ended, and found each line that it took; or it pauses where the next instruction takes a line, none is left, and
--- what is left of the budget pays for it; or at a marked place, behind at least one step
+-- It ended, and found each line that it took; or it pauses where the next instruction takes a line, none is left, and
+-- what is left of the budget pays for it; or at a marked place, behind at least one step. No marked place of an
+-- instruction on the screen was passed over, but that where it began. Where it ended or wants a line it isn't at one
+-- either.
 abbrev pub GoesTo : Code → World → ℕ → List Bool → Leg → BankState → Type 0
 GoesTo code from budget marks (Ended outcome) b =
-    (h : Headline code from budget outcome b) × FindsLines code from h.takes_its_steps.count
+    (h : Headline code from budget outcome b)
+    × (FindsLines code from h.takes_its_steps.count × PassesNoMark code marks from (suc h.takes_its_steps.count))
 GoesTo code from budget marks (Waits steps) b =
-    (p : PausesAt code from budget steps b) × ((is_dry code p.world ≡ true) × (cost_of code p.world ≤ budget - steps))
+    (p : PausesAt code from budget steps b)
+    × ((is_dry code p.world ≡ true) × (cost_of code p.world ≤ budget - steps)
+    × PassesNoMark code marks from (suc p.takes_its_steps.count))
 GoesTo code from budget marks (Marked steps) b =
-    (p : PausesAt code from budget steps b) × ((slice_get marks p.world.place ≡ Some true) × (0 < steps))
+    (p : PausesAt code from budget steps b)
+    × ((slice_get marks p.world.place ≡ Some true) × (0 < steps)
+    × PassesNoMark code marks from p.takes_its_steps.count)

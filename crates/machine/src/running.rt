@@ -76,9 +76,10 @@ pub fn run<K: KeyList>(
 }
 
 /// Goes on as `resume` does, and pauses where the next instruction takes a line of the operator, none is left, and its
-/// cost fits what is left of the budget. Whether the budget is spent is judged first. The run may also pause behind at
-/// least one step, before an instruction at a marked place. Marks are for instructions on the screen, since others may
-/// be passed over within a block. No step that was taken took a line where none was left. At a pause the banks agree
+/// cost fits what is left of the budget. Whether the budget is spent is judged first. The run also pauses behind at
+/// least one step, before the first instruction on the screen at a marked place that it comes to. Marks are for such
+/// instructions: it pauses at others too, unless they are passed over within a block. No step that was taken took a
+/// line where none was left. At a pause the banks agree
 /// with the world before the next step, and a run may go on from there. What pieces of a run come to together are the
 /// laws `lines_behind_change_no_step` and `pieces_make_the_whole` of `run_laws`.
 pub fn resume_to_line<K: KeyList>(

@@ -80,7 +80,7 @@ spent_part : (code : Code) (w : World) (budget left steps : ℕ) (marks : List B
     → GoesTo code w budget marks (Ended (record { end = Spent; steps = steps })) b → PieceReaches code w left steps b
 spent_part code w budget left steps marks b le g = record {
   world = g.0.world;
-  came = came_to code w g.0.world budget steps g.0.takes_its_steps g.1;
+  came = came_to code w g.0.world budget steps g.0.takes_its_steps g.1.0;
   within = (let within = g.0.within_the_budget in omega (arith, within, le));
   twin = g.0.goes_on;
 }

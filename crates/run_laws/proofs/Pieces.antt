@@ -1,11 +1,11 @@
 -- Runs in pieces.
-use Rattle.std.proofs.Common.{◌≡◌, ℕ, ◌+◌, ◌-◌, ◌≤◌, subst, ◌∙◌, arith}
+use Rattle.std.proofs.Common.{◌≡◌, ℕ, ◌+◌, ◌-◌, ◌≤◌, false, subst, ◌∙◌, arith}
 use Rattle.code_items.specs.declared.code.Code.{Code}
 use Rattle.run_steps.specs.declared.ending.Outcome.{Outcome}
 use Rattle.run_steps.specs.World.{World}
-use Rattle.run_steps.specs.Pausing.{Came}
+use Rattle.run_steps.specs.Pausing.{Came, is_dry}
 use Rattle.run_steps.specs.Run.{spent, Ran, Stops}
-use Rattle.run_steps.proofs.LeadingSteps.{after_more, spent_more, finds_more}
+use Rattle.run_steps.proofs.LeadingSteps.{after_more, spent_more, so_at_more}
 
 pub joined : (code : Code) (a b c : World) (first second : ℕ) → Came code a first b → Came code b second c
     → Came code a (first + second) c
@@ -15,7 +15,9 @@ joined code a b c first second one two =
       count = one.count + two.count;
       reached = after_more code a b one.count two.count one.reached ∙ two.reached;
       steps_are = omega (arith, one.steps_are, two.steps_are, all);
-      finds = finds_more code a b one.count two.count one.reached one.finds two.finds;
+      finds =
+          (let P : ℕ → World → Type 0 = λ k v. is_dry code v ≡ false in
+          so_at_more P P code a b one.count two.count one.reached one.finds two.finds (λ j u wet. wet));
     }
 
 pub ended : (code : Code) (a b c : World) (budget steps : ℕ) (outcome : Outcome) → Came code a steps b → steps ≤ budget

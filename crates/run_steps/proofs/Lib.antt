@@ -8,4 +8,5 @@ pub mod FilterRuns
 pub mod Walks
 pub mod Steps
 pub mod Runs
+pub mod Costs
 pub mod Pauses

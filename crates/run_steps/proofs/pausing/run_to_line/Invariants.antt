@@ -1,14 +1,17 @@
 use Rattle.std.proofs.Common.{◌-◌, ◌≤◌}
-use Rattle.run_steps.specs.Pausing.{Pauses}
 use Rattle.run_steps.specs.World.{World}
 use Rattle.run_steps.specs.Run.{StandsForWorld}
 use Rattle.run_steps.specs.Safe.{IsSafe}
 use Rattle.run_steps.specs.Tables.{IsDecoded}
+use Rattle.run_steps.proofs.Pauses.{Comes}
 use Rattle.run_steps.proofs.pausing.run_to_line.Given as goal
 
 abbrev pub invariant-loop-alloc : goal.invariant-loop-alloc
 invariant-loop-alloc g l = record {
-  goes : (w : World) → StandsForWorld (g.V.Values.stands l.fn.machine.values) l.fn.machine.place l.fn.machine.returns l.fn.machine.env w → IsSafe l.fn.code w → Pauses l.fn.code w l.budget l.steps (g.V.Values.stands l.machine.values) l.machine.place l.machine.returns l.machine.env;
+  goes : (w : World) → StandsForWorld (g.V.Values.stands l.fn.machine.values) l.fn.machine.place l.fn.machine.returns
+      l.fn.machine.env w → IsSafe l.fn.code w
+      → Comes l.fn.marks l.fn.code w l.budget l.steps (g.V.Values.stands l.machine.values) l.machine.place
+      l.machine.returns l.machine.env;
   within : l.steps ≤ l.budget;
   decoded : IsDecoded l.code l.decoded;
 }
