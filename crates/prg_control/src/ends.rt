@@ -1,6 +1,9 @@
 //! Where ways end: LOOP and EXIT, RETURN, and the end of a procedure.
 
-ghost use Rattle.std.specs.Prelude.{◌≡◌, ◌<◌, ◌^◌, ℕ, [], ◌∷◌, ◌++◌, true, Some, None, Err, OnOk};
+ghost use Rattle.std.specs.Prelude.{◌≡◌, ◌<◌, ◌^◌, ℕ, [], ◌∷◌, ◌++◌, true, false, Some, None, Err, OnOk};
+ghost use Rattle.std.specs.Prelude.{if◌then◌else◌};
+ghost use Rattle.code_items.specs.declared.instr.FlowInstr.TheVariants.{End};
+ghost use Rattle.code_items.specs.declared.instr.Instr.TheVariants.{Flow};
 ghost use Rattle.prg_code.specs.Growth.{WorkGrows, drafts_of};
 ghost use Rattle.prg_code.specs.declared.block.Draft.TheVariants as draft;
 ghost use Rattle.prg_code.specs.declared.fault.CompileError.TheVariants as error;
@@ -25,7 +28,10 @@ fn exit_with(work: &Work) -> Result<State, CompileError> {
 
 /// `RETURN`: in the main procedure an END.
 pub fn put_return(work: &mut Work) -> Result<(), CompileError>
-    ensures { WorkGrows work.old work.new }
+    ensures put { OnOk result (drafts_of work.new.block ≡ drafts_of work.old.block
+        ++ (if work.old.is_main then draft.Instr (Flow End) else draft.Return) ∷ []) }
+    ensures ended { OnOk result (work.new.block.reached ≡ false) }
+    ensures grown { WorkGrows work.old work.new }
 {
     if work.is_main {
         return work.block.put_end();
@@ -50,6 +56,7 @@ pub fn leap(work: &mut Work, label: Option<usize>) -> Result<(), CompileError>
 
 /// Get at this line where a READ is awaited. Where faults are listed, none is awaited any more.
 pub fn no_get_waits(w: &mut Writer, line: usize) -> Result<(), CompileRefusal>
+    ensures none { w.old.listed ≡ None → OnOk result (w.new ≡ w.old) }
     ensures same { w.new ≡ record w.old { work = w.new.work; listed = w.new.listed } }
     ensures grown { WorkGrows w.old.work w.new.work }
 {
@@ -64,6 +71,8 @@ pub fn no_get_waits(w: &mut Writer, line: usize) -> Result<(), CompileRefusal>
 
 /// Ends a procedure whose last command stands in this line. Get where a READ is awaited, at the line of the last GET.
 pub fn end_procedure(w: &mut Writer, line: usize) -> Result<(), CompileRefusal>
+    // Nothing is reached behind it, unless its end was faulty and the fault was listed.
+    ensures ended { w.old.listed ≡ None → OnOk result (w.new.work.block.reached ≡ false) }
     // Only its own code and the list of faults change, and what stood still stands.
     ensures same { w.new ≡ record w.old { work = w.new.work; listed = w.new.listed } }
     ensures grown { WorkGrows w.old.work w.new.work }
