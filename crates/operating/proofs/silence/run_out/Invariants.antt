@@ -8,7 +8,9 @@ use Rattle.operating.proofs.silence.run_out.Given as goal
 
 abbrev pub invariant-loop-turn : goal.invariant-loop-turn
 invariant-loop-turn g l = record {
-  turned : (store : StoreState) (today : Option DayParts) (bytes : List ℕ) → Talked l.fn.verified store today bytes l.fn.steps l.fn.banks → QuietTurned l.fn.verified store today bytes l.fn.budget l.turn l.banks;
+  turned : (store : StoreState) (today : Option DayParts) (bytes : List ℕ)
+      → Talked l.fn.verified store today bytes l.fn.steps l.fn.banks
+      → QuietTurned l.fn.verified store today bytes l.fn.budget l.turn l.banks;
   within : steps_of l.turn ≤ l.fn.budget;
   untold : g.O.Operator.answered l.operator ≡ g.O.Operator.answered l.fn.operator;
 }

@@ -9,7 +9,9 @@ pub returns-then-bytes-room-clause-unkept : goal.returns-then-bytes-room-clause-
 returns-then-bytes-room-clause-unkept g c = unkept_answer _ _ _ _ _ c.in-Ok-Line.ensures.answer refl
 
 pub returns-in-Err-Journal-clause-unkept : goal.returns-in-Err-Journal-clause-unkept
-returns-in-Err-Journal-clause-unkept g c = unkept_answer _ _ _ _ _ c.in-Ok-Line.ensures.answer c.in-Err-Journal.ensures.kept
+returns-in-Err-Journal-clause-unkept g c =
+    unkept_answer _ _ _ _ _ c.in-Ok-Line.ensures.answer c.in-Err-Journal.ensures.kept
 
 pub returns-in-Err-Memory-clause-unkept : goal.returns-in-Err-Memory-clause-unkept
-returns-in-Err-Memory-clause-unkept g c = unkept_answer _ _ _ _ _ c.in-Ok-Line.ensures.answer c.in-Err-Memory.ensures.kept
+returns-in-Err-Memory-clause-unkept g c =
+    unkept_answer _ _ _ _ _ c.in-Ok-Line.ensures.answer c.in-Err-Memory.ensures.kept

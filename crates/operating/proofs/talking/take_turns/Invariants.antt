@@ -8,11 +8,14 @@ use Rattle.operating.proofs.talking.take_turns.Given as goal
 
 abbrev pub invariant-loop-turned : goal.invariant-loop-turned
 invariant-loop-turned g l = record {
-  talked : (store : StoreState) (today : Option DayParts) → Talked l.fn.verified store today (g.J.Journal.holds l.fn.journal) 0 l.fn.banks → Talked l.fn.verified store today (g.J.Journal.holds l.journal) l.steps l.banks;
+  talked : (store : StoreState) (today : Option DayParts)
+      → Talked l.fn.verified store today (g.J.Journal.holds l.fn.journal) 0 l.fn.banks
+      → Talked l.fn.verified store today (g.J.Journal.holds l.journal) l.steps l.banks;
   within : l.steps ≤ l.budget;
   few : l.used ≤ l.most;
   counted : l.used ≡ length (g.J.Journal.holds l.journal);
-  kept : AnswersKept (g.O.Operator.answered l.fn.operator) (g.O.Operator.answered l.operator) (g.J.Journal.holds l.fn.journal) (g.J.Journal.holds l.journal);
+  kept : AnswersKept (g.O.Operator.answered l.fn.operator) (g.O.Operator.answered l.operator)
+      (g.J.Journal.holds l.fn.journal) (g.J.Journal.holds l.journal);
 }
 
 abbrev pub decreases-loop-turned : goal.decreases-loop-turned
