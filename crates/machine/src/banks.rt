@@ -39,9 +39,13 @@ pub struct Banks<K: KeyList> {
 }
 
 impl<K: KeyList> Model for Banks<K> {
+    ghost use Rattle.std.specs.Coded.{codes};
     ghost use Rattle.machine.specs.Twins.{BankState, banks_of};
+    ghost use Rattle.run_steps.specs.contracts.row_works.RowWork as any_work;
 
     ghost Value = { BankState };
+
+    ghost coded = { Prim.hlevel (codes, any_work.the_row.coded) };
 
     ghost view = { λ b. banks_of b.machine.place b.machine.returns b.machine.values b.machine.env b.decoded };
 }

@@ -1,7 +1,8 @@
 // Command files compiled and run, from files to files.
 #![tactic(auto)]
 
-use super::parts::{RunCase, is_text, number_at};
+use super::changed_files::originals::{INDEX, bytes_of};
+use super::parts::{RunCase, is_text};
 use super::stored::{came_to, run_case};
 use super::tables::{lay, put_file, table};
 use compile_commands::{CompileFilesRefusal, CompileTold, CompileWords, compile_files};
@@ -173,15 +174,15 @@ pub fn are_lists(alloc: Global, files: &mut MemoryFiles<'_>, case: RunCase<'_>) 
     true
 }
 
-/// Whether the file of which a case says the size, if it does, has so many bytes.
-fn has_size(files: &MemoryFiles<'_>, case: RunCase<'_>) -> bool {
-    let (name, size) = case.line("size ").split_once(' ').unwrap_or(("", ""));
+/// Whether the index of which a case says so, if it does, is saved as the one that other tests change byte by byte.
+fn is_original(alloc: Global, files: &MemoryFiles<'_>, case: RunCase<'_>) -> bool {
+    let name = case.line("original ");
     if name.is_empty() {
         return true;
     }
-    match files.bytes_of(name) {
-        Some(bytes) => bytes.len() as u64 == number_at(size, 0),
-        None => false,
+    match (files.bytes_of(name), bytes_of(alloc, INDEX)) {
+        (Some(bytes), Ok(wanted)) => bytes == wanted.as_slice(),
+        _ => false,
     }
 }
 
@@ -226,5 +227,5 @@ pub fn runs_well(alloc: Global, case: RunCase<'_>) -> bool {
             && runs_so(alloc, &mut files, case, false)
             && are_lists(alloc, &mut files, case)
             && is_saved(alloc, &files, case)
-            && has_size(&files, case)
+            && is_original(alloc, &files, case)
 }

@@ -1,7 +1,8 @@
 // Command files with their tables, and what comes of them. `each` says the budget up to which both machines run a case
 // alike, `parts` that it runs in parts, `full again` that the table stays full, `lends` that its one index is open,
 // `calls` how many calls of the device a run makes, `untold` what is told where a call of the device fails while it is
-// compiled, `sorted` the record at which a run over sorted keys ends, and `size` how many bytes a saved file has.
+// compiled, `sorted` the record at which a run over sorted keys ends, and `original` an index that is saved
+// as the one that other tests change byte by byte.
 #![tactic(auto)]
 
 pub const CASES: &str = r#"
@@ -357,7 +358,7 @@ SEEK "Z"
 %rows
 .T.
 %ended finished 23
-%size KI.NDX 1024
+%original KI.NDX
 %keys KI.NDX
 K 1
       2 B

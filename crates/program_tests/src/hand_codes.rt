@@ -44,6 +44,9 @@ pub const FAULTS: &str = "%table T.DBF K C 1 0
 #an order in a closed area
 %over T%code 0x24 0 1 0; 0x14 0 0 0;
 %checked 100 fault ClosedArea 0 0
+#a refused code, whose table isn't read
+%over T%works 1%code 0x26 0 0 0; 0x14 0 0 0;
+%untagged 100 refused hand.xbc ClosedArea 0
 #no order
 %over T%code 0x20 0 0 0; 0x24 0 1 0; 0x14 0 0 0;
 %checked 100 fault NoOrder 1 1

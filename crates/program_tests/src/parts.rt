@@ -8,7 +8,7 @@ use std::alloc::AllocError;
 const WORDS: &str = "\
 absent again both budget bytes calls checked code constants cut day declarations each ended fails \
 failures faults file files filters first full handed holds index indexes kept keys lends length limit lines \
-list maps over part parts procedures refused rehearsed room rows saved screens set shape size slots sorted \
+list maps original over part parts procedures refused rehearsed room rows saved screens set shape slots sorted \
 source stack steps table tables told typed untagged untold verdict works";
 
 /// A case: its own parts, and those that it has in common with others.

@@ -49,13 +49,14 @@ fn has_fault(report: &Report) -> bool {
     }
 }
 
-/// Whether the bytes are refused, or run without a fault as the checking machine runs them.
+/// Whether the bytes are refused, or run without a fault as the checking machine runs them. That runs refused codes too,
+/// and returns.
 fn runs_well(alloc: Global, bytes: &[u8], day: RunDay) -> bool {
     let untagged = run(alloc, bytes, false, day);
+    let checked = run(alloc, bytes, true, day);
     if untagged.result.is_err() {
         return true;
     }
-    let checked = run(alloc, bytes, true, day);
     !has_fault(&checked)
         && checked.result == untagged.result
         && checked.rows.as_slice() == untagged.rows.as_slice()

@@ -4,4 +4,4 @@
 
 mod changed;
 mod cuts;
-mod originals;
+pub mod originals;
