@@ -49,8 +49,8 @@ fn has_fault(report: &Report) -> bool {
     }
 }
 
-/// Whether the bytes are refused, or run without a fault as the checking machine runs them. That runs refused codes too,
-/// and returns.
+/// Whether the bytes are refused, or run without a fault as the checking machine runs them. That runs refused codes
+/// too, and returns.
 fn runs_well(alloc: Global, bytes: &[u8], day: RunDay) -> bool {
     let untagged = run(alloc, bytes, false, day);
     let checked = run(alloc, bytes, true, day);
