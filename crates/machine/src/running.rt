@@ -37,7 +37,7 @@ fn go_on<K: KeyList>(alloc: Global, code: &Code, banks: &mut Banks<K>, budget: u
     runs_cost_their_steps();
     runs_make_few_steps();
     safe_runs_meet_no_fault();
-    let outcome = run_untested(alloc, code, &mut banks.decoded, &mut banks.machine, budget);
+    let outcome = run_untested(alloc, code, &banks.decoded, &mut banks.machine, budget);
     banks.machine.store().open_indexes_list_keys();
     outcome
 }
@@ -121,7 +121,7 @@ fn go_to_line<K: KeyList>(
     let leg = run_to_line(
         alloc,
         code,
-        &mut banks.decoded,
+        &banks.decoded,
         marks,
         &mut banks.machine,
         budget,

@@ -9,7 +9,6 @@ pub mod Pausing
 pub mod Leading
 pub mod Machines
 pub mod Blocks
-pub mod Registers
 pub mod Tables
 pub mod RowWorks
 pub mod Run

@@ -17,7 +17,6 @@ mod on_records;
 mod on_screen;
 mod on_values;
 mod pausing;
-mod registers;
 mod returns;
 mod row_values;
 mod row_works;

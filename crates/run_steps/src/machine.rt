@@ -136,8 +136,9 @@ pub fn place_after<V: Values>(
 /// Carries out an instruction on the flow of control, as far as values go.
 fn on_flow<V: Values>(values: &mut V, instr: FlowInstr, left: u64) -> Result<u64, Stop>
     requires { (t : TaggedValues) × (V.stands values.old t × FlowNeeds instr t) }
-    ensures { (code : AnyCode) (t : TaggedValues) (e : EnvState) → V.stands values.old t → FlowNeeds instr t
+    ensures stands { (code : AnyCode) (t : TaggedValues) (e : EnvState) → V.stands values.old t → FlowNeeds instr t
         → Executed code (OfFlow instr) t e left result (V.stands values.new) e }
+    ensures registers { V.registers values.new ≡ V.registers values.old }
 {
     if left == 0 {
         return Err(Stop::Spent);
@@ -162,8 +163,9 @@ fn carry_out<V: Values, K: KeyList>(
     requires legal { IsCode code.now }
     requires filters { AreRowWorks code.now filters.now }
     requires needs { (t : TaggedValues) × (V.stands values.old t × Needs code.now instr t env.old) }
-    ensures { (t : TaggedValues) → V.stands values.old t → Needs code.now instr t env.old
+    ensures stands { (t : TaggedValues) → V.stands values.old t → Needs code.now instr t env.old
         → Executed code.now instr t env.old left result (V.stands values.new) env.new }
+    ensures registers { V.registers values.new ≡ V.registers values.old }
 {
     match instr {
         Instr::Values(instr) => on_values(code, values, env, instr, left),
@@ -202,8 +204,9 @@ pub fn execute<V: Values, K: KeyList>(
     requires legal { IsCode code.now }
     requires filters { AreRowWorks code.now filters.now }
     requires ready { (w : World) × (StandsFor V.stands machine.old w × IsReadyFor code.now w instr) }
-    ensures { (w : World) → StandsFor V.stands machine.old w → IsReadyFor code.now w instr
+    ensures steps { (w : World) → StandsFor V.stands machine.old w → IsReadyFor code.now w instr
         → StepsMachine code.now w instr left result V.stands machine.new }
+    ensures registers { V.registers machine.new.values ≡ V.registers machine.old.values }
 {
     let place = place_after(
         code,

@@ -148,8 +148,9 @@ fn operand<V: Values>(values: &V, instr: MoveInstr) -> Option<Lent<'_>>
 /// Takes the operand of a move off the stack, if it has one.
 fn take_operand<V: Values>(values: &mut V, instr: MoveInstr)
     requires { (t : TaggedValues) × (V.stands values.old t × GivenNeeds instr t) }
-    ensures { (t : TaggedValues) → V.stands values.old t → GivenNeeds instr t
+    ensures stands { (t : TaggedValues) → V.stands values.old t → GivenNeeds instr t
         → V.stands values.new (dropped (move_signature instr).taken t) }
+    ensures registers { V.registers values.new ≡ V.registers values.old }
 {
     match instr {
         MoveInstr::Top | MoveInstr::Bottom => {}
@@ -210,8 +211,9 @@ pub fn on_moves<V: Values, K: KeyList>(
     requires legal { IsCode code.now }
     requires filters { AreRowWorks code.now filters.now }
     requires needs { (t : TaggedValues) × (V.stands values.old t × MoveNeeds code.now instr t env.old) }
-    ensures { (t : TaggedValues) → V.stands values.old t → MoveNeeds code.now instr t env.old
+    ensures stands { (t : TaggedValues) → V.stands values.old t → MoveNeeds code.now instr t env.old
         → Executed code.now (OfMoves instr) t env.old left result (V.stands values.new) env.new }
+    ensures registers { V.registers values.new ≡ V.registers values.old }
 {
     let given = operand(values, instr);
     let view = View::new(code, filters, values, env.moment(), env.filter_here());

@@ -42,8 +42,9 @@ pub(crate) fn push_answer<V: Values, K: KeyList>(
     question: Question,
 )
     requires { (t : TaggedValues) × (V.stands values.old t × IsSome (here store.now) × HasRoom t) }
-    ensures { (t : TaggedValues) → V.stands values.old t
+    ensures stands { (t : TaggedValues) → V.stands values.old t
         → IfSome (here store.now) (λ o. V.stands values.new (pushed (answer_of question o) t)) }
+    ensures registers { V.registers values.new ≡ V.registers values.old }
 {
     match question {
         Question::Recno => values.push_number(store.recno().into()),
@@ -64,8 +65,9 @@ pub(crate) fn push_field<V: Values, K: KeyList>(
 )
     requires { (t : TaggedValues) × (V.stands values.old t × (1 ≤ area) × (area ≤ 10)
         × HasField field (area_table store.now area) × HasRoom t) }
-    ensures { (t : TaggedValues) → V.stands values.old t
+    ensures stands { (t : TaggedValues) → V.stands values.old t
         → IfSome (area_table store.now area) (λ o. V.stands values.new (pushed (field_of field o) t)) }
+    ensures registers { V.registers values.new ≡ V.registers values.old }
 {
     let f = usize::from(field);
     match store.row(area) {
@@ -125,9 +127,10 @@ fn replace<V: Values, K: KeyList>(
 ) -> Result<u64, Stop>
     requires { (t : TaggedValues)
         × (V.stands values.old t × HasField field (here store.old) × IfSome (here store.old) (TakesField field t)) }
-    ensures { (t : TaggedValues) → V.stands values.old t → HasField field (here store.old)
+    ensures stands { (t : TaggedValues) → V.stands values.old t → HasField field (here store.old)
         → IfSome (here store.old) (TakesField field t)
         → HasReplaced field t store.old result (V.stands values.new) store.new }
+    ensures registers { V.registers values.new ≡ V.registers values.old }
 {
     let kind = kind_here(store, field);
     let value = values.top(kind);
@@ -253,8 +256,9 @@ pub fn on_records<V: Values, K: KeyList>(
     requires legal { IsCode code.now }
     requires filters { AreRowWorks code.now filters.now }
     requires needs { (t : TaggedValues) × (V.stands values.old t × RecordNeeds code.now instr t env.old) }
-    ensures { (t : TaggedValues) → V.stands values.old t → RecordNeeds code.now instr t env.old
+    ensures stands { (t : TaggedValues) → V.stands values.old t → RecordNeeds code.now instr t env.old
         → Executed code.now (OfRecords instr) t env.old left result (V.stands values.new) env.new }
+    ensures registers { V.registers values.new ≡ V.registers values.old }
 {
     if closes(instr) {
         return close(alloc, code, filters, values, env, instr, left);

@@ -22,8 +22,9 @@ use xvalue::{Kind, Value};
 /// SAY: takes the value, the column and the row, and shows the value there.
 fn say<V: Values, K: KeyList>(values: &mut V, env: &mut Environment<K>, kind: Kind)
     requires { (t : TaggedValues) × (V.stands values.old t × HasOnTop (kind ∷ OfNumber ∷ OfNumber ∷ []) t.stack) }
-    ensures { (t : TaggedValues) → V.stands values.old t → HasOnTop (kind ∷ OfNumber ∷ OfNumber ∷ []) t.stack
+    ensures stands { (t : TaggedValues) → V.stands values.old t → HasOnTop (kind ∷ OfNumber ∷ OfNumber ∷ []) t.stack
         → V.stands values.new (dropped 3 t) × (env.new ≡ screen_env (OfSay kind) t env.old) }
+    ensures registers { V.registers values.new ≡ V.registers values.old }
 {
     let text = values.top_lent(kind).shown(env.settings());
     values.discard(kind);
@@ -35,8 +36,9 @@ fn say<V: Values, K: KeyList>(values: &mut V, env: &mut Environment<K>, kind: Ki
 /// SAYON: takes the value and shows it one column behind the cursor.
 fn say_on<V: Values, K: KeyList>(values: &mut V, env: &mut Environment<K>, kind: Kind)
     requires { (t : TaggedValues) × (V.stands values.old t × HasOnTop (kind ∷ []) t.stack) }
-    ensures { (t : TaggedValues) → V.stands values.old t → HasOnTop (kind ∷ []) t.stack
+    ensures stands { (t : TaggedValues) → V.stands values.old t → HasOnTop (kind ∷ []) t.stack
         → V.stands values.new (dropped 1 t) × (env.new ≡ screen_env (OfSayOn kind) t env.old) }
+    ensures registers { V.registers values.new ≡ V.registers values.old }
 {
     let text = values.top_lent(kind).shown(env.settings());
     values.discard(kind);
@@ -46,9 +48,10 @@ fn say_on<V: Values, K: KeyList>(values: &mut V, env: &mut Environment<K>, kind:
 /// INPUT: takes the old value, and puts what the operator's next line makes of it.
 fn input<V: Values, K: KeyList>(values: &mut V, env: &mut Environment<K>, kind: Kind)
     requires { (t : TaggedValues) × (V.stands values.old t × ScreenNeeds (OfInput kind) t) }
-    ensures { (t : TaggedValues) → V.stands values.old t → ScreenNeeds (OfInput kind) t
+    ensures stands { (t : TaggedValues) → V.stands values.old t → ScreenNeeds (OfInput kind) t
         → V.stands values.new (screen_values (OfInput kind) t env.old)
         × (env.new ≡ screen_env (OfInput kind) t env.old) }
+    ensures registers { V.registers values.new ≡ V.registers values.old }
 {
     let old = values.top(kind);
     values.discard(kind);
@@ -63,9 +66,10 @@ fn print<V: Values, K: KeyList>(
     kind: Kind,
 ) -> Result<u64, Stop>
     requires { (t : TaggedValues) × (V.stands values.old t × HasOnTop (kind ∷ []) t.stack) }
-    ensures { (code : AnyCode) (t : TaggedValues) (left : ℕ) → 1 ≤ left → V.stands values.old t
+    ensures stands { (code : AnyCode) (t : TaggedValues) (left : ℕ) → 1 ≤ left → V.stands values.old t
         → HasOnTop (kind ∷ []) t.stack
         → Executed code (OfScreen (OfPrint kind)) t env.old left result (V.stands values.new) env.new }
+    ensures registers { V.registers values.new ≡ V.registers values.old }
 {
     let text = values.top_lent(kind).shown(env.settings());
     if env.print(&text).is_err() {
@@ -94,8 +98,9 @@ pub fn on_screen<V: Values, K: KeyList>(
     left: u64,
 ) -> Result<u64, Stop>
     requires { (t : TaggedValues) × (V.stands values.old t × ScreenNeeds instr t) }
-    ensures { (code : AnyCode) (t : TaggedValues) → V.stands values.old t → ScreenNeeds instr t
+    ensures stands { (code : AnyCode) (t : TaggedValues) → V.stands values.old t → ScreenNeeds instr t
         → Executed code (OfScreen instr) t env.old left result (V.stands values.new) env.new }
+    ensures registers { V.registers values.new ≡ V.registers values.old }
 {
     if left == 0 {
         return Err(Stop::Spent);

@@ -20,7 +20,8 @@ use xvalue::Value;
 /// Puts a day on the stack. It stands apart, since a value is large and a function's locals are zeroed on entry.
 fn push_day<V: Values>(values: &mut V, day: Day)
     requires { (t : TaggedValues) × (V.stands values.old t × (length t.stack < 64)) }
-    ensures { (t : TaggedValues) → V.stands values.old t → V.stands values.new (pushed (Date day) t) }
+    ensures stands { (t : TaggedValues) → V.stands values.old t → V.stands values.new (pushed (Date day) t) }
+    ensures registers { V.registers values.new ≡ V.registers values.old }
 {
     values.push(Value::Date(day));
 }
@@ -36,6 +37,7 @@ pub(crate) fn change_values<V: Values, K: KeyList>(
     ensures values { (t : TaggedValues) → V.stands values.old t → ValueNeeds code.now instr t
         → V.stands values.new (value_values code.now instr t env.old) }
     ensures env { env.new ≡ value_env instr env.old }
+    ensures registers { V.registers values.new ≡ V.registers values.old }
 {
     match instr {
         ValueInstr::Constant(number) => {
@@ -60,8 +62,9 @@ pub fn on_values<V: Values, K: KeyList>(
     left: u64,
 ) -> Result<u64, Stop>
     requires { (t : TaggedValues) × (V.stands values.old t × ValueNeeds code.now instr t) }
-    ensures { (t : TaggedValues) → V.stands values.old t → ValueNeeds code.now instr t
+    ensures stands { (t : TaggedValues) → V.stands values.old t → ValueNeeds code.now instr t
         → Executed code.now (OfValues instr) t env.old left result (V.stands values.new) env.new }
+    ensures registers { V.registers values.new ≡ V.registers values.old }
 {
     if left == 0 {
         return Err(Stop::Spent);

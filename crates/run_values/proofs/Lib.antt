@@ -1,3 +1,4 @@
+pub mod CellRows
 pub mod PileLists
 pub mod Picking
 pub mod Calls
@@ -8,3 +9,4 @@ pub mod CutBytes
 pub mod Said
 pub mod Keeping
 pub mod BlockTops
+pub mod Reading

@@ -1,6 +1,8 @@
 pub mod KindStacks
 pub mod Kept
+pub mod Operands
 pub mod Places
+pub mod Registers
 pub mod BlockStack
 pub mod Calling
 pub mod Standing

@@ -1,11 +1,13 @@
 //! Values that keep their kinds: those without tags, and the kind of each beside them.
 
-ghost use Rattle.std.specs.Prelude.{◌≡◌, IfOk, [], length, map, replicate, reverse, slice_get, None};
+ghost use Rattle.std.specs.Prelude.{◌≡◌, ◌≤◌, IfOk, [], length, map, replicate, reverse, slice_get, None};
+ghost use Rattle.run_values.specs.Operands.{no_registers};
 ghost use Rattle.run_values.specs.Standing.{IsTagged};
 ghost use Rattle.run_values.specs.Tagged.{TaggedValues};
 ghost use Rattle.xvalue.specs.Kinds.{kind_of, kind_held};
 
 use crate::lent::Lent;
+use crate::operands::Operand;
 use crate::pile::Pile;
 use crate::untagged::Untagged;
 use crate::values::Values;
@@ -46,8 +48,9 @@ fn unset_slots(alloc: Global, count: usize) -> Result<Vec<Option<Kind>>, AllocEr
 }
 
 impl Tagged {
-    /// So many slots, all unset, and an empty stack.
+    /// So many slots, at most 256, all unset, and an empty stack.
     pub fn new(alloc: Global, slots: usize) -> Result<Tagged, AllocError>
+        requires { slots ≤ 256 }
         ensures { IfOk result (λ values. values ≡ record { slots = replicate slots None; stack = [] }) }
     {
         Ok(Tagged {
@@ -84,6 +87,8 @@ impl Tagged {
 
 impl Values for Tagged {
     ghost stands = { IsTagged };
+
+    ghost registers = { λ _. no_registers };
 
     fn push(&mut self, value: Value) {
         let kind = value.kind();
@@ -142,12 +147,20 @@ impl Values for Tagged {
         self.values.value(kind, slot)
     }
 
-    fn number(&self, slot: usize) -> &Num {
-        self.values.number(slot)
+    fn number(&self, source: Operand) -> &Num {
+        self.values.number(source)
     }
 
-    fn held_truth(&self, slot: usize) -> bool {
-        self.values.held_truth(slot)
+    fn held_truth(&self, source: Operand) -> bool {
+        self.values.held_truth(source)
+    }
+
+    fn set_number_register(&mut self, _register: usize, _number: Num) {}
+
+    fn set_truth_register(&mut self, _register: usize, _truth: bool) {}
+
+    fn lay(&mut self, _constants: &[Value]) -> bool {
+        false
     }
 
     fn set_number(&mut self, slot: usize, number: Num) {

@@ -1,29 +1,37 @@
 //! What instructions ask of a machine's values.
 
-ghost use Rattle.std.specs.Prelude.{◌≡◌, ◌<◌, ◌≤◌, ◌∷◌, [], length, slice_get, Some, None};
+ghost use Rattle.std.specs.Prelude.{◌≡◌, ◌<◌, ◌≤◌, ◌∷◌, [], length, slice_get, slice_set, Some, None, true};
 ghost use Rattle.xvalue.specs.declared.kind.Kind.TheVariants.{Number as OfNumber, Logical as OfLogical};
 ghost use Rattle.xvalue.specs.declared.value.Value.TheVariants.{Number as IsNumber, Logical as IsLogical};
 ghost use Rattle.run_values.specs.Tagged.{TaggedValues, HasOnTop, HasArguments, HoldsKind, pushed, dropped, with_slot};
 ghost use Rattle.run_values.specs.Tagged.{loaded, stored, called};
+ghost use Rattle.run_values.specs.Operands.{RegisterState, HoldsConstants, sources_of, NumberThere, TruthThere};
+ghost use Rattle.run_values.specs.Operands.{number_of_operand, truth_of_operand};
 
 use crate::lent::Lent;
+use crate::operands::Operand;
 use fixed_num::Num;
 use xvalue::{Fun, Kind, Settings, Value};
 
 /// Slots and a stack. Whether they keep the kinds of what they hold is theirs: they stand for values that have them,
-/// perhaps for many. No call takes memory.
+/// perhaps for many. No call but one takes memory.
 pub trait Values: Drop {
     ghost stands: { Self → TaggedValues → Type 0 };
+
+    /// The registers beside them, which blocks use.
+    ghost registers: { Self → RegisterState };
 
     /// Puts a value on the stack.
     fn push(&mut self, value: Value)
         requires { (t : TaggedValues) × (stands self.old t × (length t.stack < 64)) }
-        ensures { (t : TaggedValues) → stands self.old t → stands self.new (pushed value t) };
+        ensures stands { (t : TaggedValues) → stands self.old t → stands self.new (pushed value t) }
+        ensures registers { registers self.new ≡ registers self.old };
 
     /// Puts the same value once more on the stack.
     fn push_copy(&mut self, value: &Value)
         requires { (t : TaggedValues) × (stands self.old t × (length t.stack < 64)) }
-        ensures { (t : TaggedValues) → stands self.old t → stands self.new (pushed value.now t) };
+        ensures stands { (t : TaggedValues) → stands self.old t → stands self.new (pushed value.now t) }
+        ensures registers { registers self.new ≡ registers self.old };
 
     /// The same value as that on top, which is of this kind; it stays.
     fn top(&self, kind: Kind) -> Value
@@ -34,7 +42,8 @@ pub trait Values: Drop {
     /// Puts a value that is lent on the stack.
     fn push_lent(&mut self, value: &Lent<'_>)
         requires { (t : TaggedValues) × (stands self.old t × (length t.stack < 64)) }
-        ensures { (t : TaggedValues) → stands self.old t → stands self.new (pushed value.now t) };
+        ensures stands { (t : TaggedValues) → stands self.old t → stands self.new (pushed value.now t) }
+        ensures registers { registers self.new ≡ registers self.old };
 
     /// The value on top, which is of this kind, lent from there.
     fn top_lent(&self, kind: Kind) -> Lent<'_>
@@ -51,30 +60,35 @@ pub trait Values: Drop {
     /// Puts a number on the stack.
     fn push_number(&mut self, number: Num)
         requires { (t : TaggedValues) × (stands self.old t × (length t.stack < 64)) }
-        ensures { (t : TaggedValues) → stands self.old t → stands self.new (pushed (IsNumber number) t) };
+        ensures stands { (t : TaggedValues) → stands self.old t → stands self.new (pushed (IsNumber number) t) }
+        ensures registers { registers self.new ≡ registers self.old };
 
     /// Takes the number on top off the stack.
     fn pop_number(&mut self) -> Num
         requires { (t : TaggedValues) × (stands self.old t × HasOnTop (OfNumber ∷ []) t.stack) }
-        ensures { (t : TaggedValues) → stands self.old t → HasOnTop (OfNumber ∷ []) t.stack
-            → (slice_get t.stack 0 ≡ Some (IsNumber result)) × stands self.new (dropped 1 t) };
+        ensures stands { (t : TaggedValues) → stands self.old t → HasOnTop (OfNumber ∷ []) t.stack
+            → (slice_get t.stack 0 ≡ Some (IsNumber result)) × stands self.new (dropped 1 t) }
+        ensures registers { registers self.new ≡ registers self.old };
 
     /// Puts a truth value on the stack.
     fn push_truth(&mut self, truth: bool)
         requires { (t : TaggedValues) × (stands self.old t × (length t.stack < 64)) }
-        ensures { (t : TaggedValues) → stands self.old t → stands self.new (pushed (IsLogical truth) t) };
+        ensures stands { (t : TaggedValues) → stands self.old t → stands self.new (pushed (IsLogical truth) t) }
+        ensures registers { registers self.new ≡ registers self.old };
 
     /// Takes the truth value on top off the stack.
     fn pop_truth(&mut self) -> bool
         requires { (t : TaggedValues) × (stands self.old t × HasOnTop (OfLogical ∷ []) t.stack) }
-        ensures { (t : TaggedValues) → stands self.old t → HasOnTop (OfLogical ∷ []) t.stack
-            → (slice_get t.stack 0 ≡ Some (IsLogical result)) × stands self.new (dropped 1 t) };
+        ensures stands { (t : TaggedValues) → stands self.old t → HasOnTop (OfLogical ∷ []) t.stack
+            → (slice_get t.stack 0 ≡ Some (IsLogical result)) × stands self.new (dropped 1 t) }
+        ensures registers { registers self.new ≡ registers self.old };
 
     /// Takes the value on top, which is of this kind, away.
     fn discard(&mut self, kind: Kind)
         requires { (t : TaggedValues) × (stands self.old t × HasOnTop (kind ∷ []) t.stack) }
-        ensures { (t : TaggedValues) → stands self.old t → HasOnTop (kind ∷ []) t.stack
-            → stands self.new (dropped 1 t) };
+        ensures stands { (t : TaggedValues) → stands self.old t → HasOnTop (kind ∷ []) t.stack
+            → stands self.new (dropped 1 t) }
+        ensures registers { registers self.new ≡ registers self.old };
 
     /// What the slot holds, which is of this kind, lent from there.
     fn value(&self, kind: Kind, slot: usize) -> Lent<'_>
@@ -82,45 +96,71 @@ pub trait Values: Drop {
         ensures { (t : TaggedValues) → stands self.now t → HoldsKind kind (slice_get t.slots slot)
             → slice_get t.slots slot ≡ Some (Some result) };
 
-    /// The number that the slot holds, where it stands.
-    fn number(&self, slot: usize) -> &Num
-        requires { (t : TaggedValues) × (stands self.now t × HoldsKind OfNumber (slice_get t.slots slot)) }
-        ensures { (t : TaggedValues) → stands self.now t → HoldsKind OfNumber (slice_get t.slots slot)
-            → slice_get t.slots slot ≡ Some (Some (IsNumber result.now)) };
+    /// The number of a slot or in a register, where it stands.
+    fn number(&self, source: Operand) -> &Num
+        requires { (t : TaggedValues)
+            × (stands self.now t × NumberThere source (sources_of t (registers self.now))) }
+        ensures { (t : TaggedValues) → stands self.now t → NumberThere source (sources_of t (registers self.now))
+            → IsNumber result.now ≡ number_of_operand source (sources_of t (registers self.now)) };
 
-    /// The truth value that the slot holds.
-    fn held_truth(&self, slot: usize) -> bool
-        requires { (t : TaggedValues) × (stands self.now t × HoldsKind OfLogical (slice_get t.slots slot)) }
-        ensures { (t : TaggedValues) → stands self.now t → HoldsKind OfLogical (slice_get t.slots slot)
-            → slice_get t.slots slot ≡ Some (Some (IsLogical result)) };
+    /// The truth value of a slot or in a register.
+    fn held_truth(&self, source: Operand) -> bool
+        requires { (t : TaggedValues)
+            × (stands self.now t × TruthThere source (sources_of t (registers self.now))) }
+        ensures { (t : TaggedValues) → stands self.now t → TruthThere source (sources_of t (registers self.now))
+            → IsLogical result ≡ truth_of_operand source (sources_of t (registers self.now)) };
+
+    /// Puts a number into a register, which is there.
+    fn set_number_register(&mut self, register: usize, number: Num)
+        requires { register < length (registers self.old).numbers }
+        ensures stands { (t : TaggedValues) → stands self.old t → stands self.new t }
+        ensures registers { registers self.new ≡ record (registers self.old) {
+            numbers = slice_set (registers self.old).numbers register number } };
+
+    /// Puts a truth value into a register, which is there.
+    fn set_truth_register(&mut self, register: usize, truth: bool)
+        requires { register < length (registers self.old).truths }
+        ensures stands { (t : TaggedValues) → stands self.old t → stands self.new t }
+        ensures registers { registers self.new ≡ record (registers self.old) {
+            truths = slice_set (registers self.old).truths register truth } };
+
+    /// Makes the registers those for a run with these constants; whether it could. This call alone takes memory.
+    fn lay(&mut self, constants: &[Value]) -> bool
+        ensures stands { (t : TaggedValues) → stands self.old t → stands self.new t }
+        ensures laid { result ≡ true → HoldsConstants constants.now (registers self.new) };
 
     /// Puts a number into the slot, which is there.
     fn set_number(&mut self, slot: usize, number: Num)
         requires { (t : TaggedValues) × (stands self.old t × (slot < length t.slots)) }
-        ensures { (t : TaggedValues) → stands self.old t
-            → stands self.new (with_slot slot (Some (IsNumber number)) t) };
+        ensures stands { (t : TaggedValues) → stands self.old t
+            → stands self.new (with_slot slot (Some (IsNumber number)) t) }
+        ensures registers { registers self.new ≡ registers self.old };
 
     /// Puts what the slot holds, which is of this kind, on the stack.
     fn load(&mut self, kind: Kind, slot: usize)
         requires { (t : TaggedValues)
             × (stands self.old t × HoldsKind kind (slice_get t.slots slot) × (length t.stack < 64)) }
-        ensures { (t : TaggedValues) → stands self.old t → HoldsKind kind (slice_get t.slots slot)
-            → stands self.new (loaded slot t) };
+        ensures stands { (t : TaggedValues) → stands self.old t → HoldsKind kind (slice_get t.slots slot)
+            → stands self.new (loaded slot t) }
+        ensures registers { registers self.new ≡ registers self.old };
 
     /// Takes the value on top, which is of this kind, into the slot, which is there.
     fn store(&mut self, kind: Kind, slot: usize)
         requires { (t : TaggedValues) × (stands self.old t × HasOnTop (kind ∷ []) t.stack × (slot < length t.slots)) }
-        ensures { (t : TaggedValues) → stands self.old t → HasOnTop (kind ∷ []) t.stack
-            → stands self.new (stored slot t) };
+        ensures stands { (t : TaggedValues) → stands self.old t → HasOnTop (kind ∷ []) t.stack
+            → stands self.new (stored slot t) }
+        ensures registers { registers self.new ≡ registers self.old };
 
     /// Unsets the slot, which is there.
     fn unset(&mut self, slot: usize)
         requires { (t : TaggedValues) × (stands self.old t × (slot < length t.slots)) }
-        ensures { (t : TaggedValues) → stands self.old t → stands self.new (with_slot slot None t) };
+        ensures stands { (t : TaggedValues) → stands self.old t → stands self.new (with_slot slot None t) }
+        ensures registers { registers self.new ≡ registers self.old };
 
     /// Takes the arguments of the function, which are there, off the stack, and puts its result there.
     fn call(&mut self, fun: Fun, settings: Settings)
         requires { (t : TaggedValues) × (stands self.old t × HasArguments fun t.stack × (length t.stack ≤ 64)) }
-        ensures { (t : TaggedValues) → stands self.old t → HasArguments fun t.stack
-            → stands self.new (called fun settings t) };
+        ensures stands { (t : TaggedValues) → stands self.old t → HasArguments fun t.stack
+            → stands self.new (called fun settings t) }
+        ensures registers { registers self.new ≡ registers self.old };
 }

@@ -50,6 +50,7 @@ impl<K: KeyList> World<K> {
         ensures apart { IfOk result (λ world. AreApart world.env.store.areas) }
     {
         openings_have_the_shape();
+        legal_codes();
         let values = Tagged::new(alloc, usize::from(code.code().declared.slots))?;
         Ok(World {
             machine: Machine::opening(alloc, values, store, lines, today)?,

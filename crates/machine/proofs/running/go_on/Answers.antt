@@ -28,7 +28,7 @@ returns g c = λ w t.
     let n = c.run-outcome.new.machine in
     let a : AgreesWith (banks_of m.place m.returns m.values m.env d) w = subst (λ b. AgreesWith b w) (sym c.banks.view_is) t.agrees in
     let safe = c.fitting_worlds_are_safe.ensures code legal accepted in
-    let ends = c.run-outcome.ensures.ends w (stands (banks_of m.place m.returns m.values m.env d) w a) (safe w t.fits) in
+    let ends = c.run-outcome.ensures w (stands (banks_of m.place m.returns m.values m.env d) w a) (safe w t.fits) in
     headline code (record {
       safe = safe;
       fits = c.runs_keep_fitting.ensures code legal accepted;
@@ -39,4 +39,4 @@ returns g c = λ w t.
       few = c.runs_cost_their_steps.ensures code;
       made = c.runs_make_few_steps.ensures code;
       keeps = λ shape. record { stores = c.stores_keep_their_shape.ensures shape; tables = c.tables_keep_their_kind.ensures };
-    }) w c.args.budget c.run-outcome.result (banks_of n.place n.returns n.values n.env c.run-outcome.new.decoded) t.fits (subst OpenIndexesList c.store.ensures c.open_indexes_list_keys.ensures) c.run-outcome.ensures.decoded ends
+    }) w c.args.budget c.run-outcome.result (banks_of n.place n.returns n.values n.env d) t.fits (subst OpenIndexesList c.store.ensures c.open_indexes_list_keys.ensures) (subst (λ (b : BankState). IsDecoded code b.decoded) (sym c.banks.view_is) t.decoded) ends

@@ -4,11 +4,11 @@ use Rattle.work_area.specs.Areas.{here, change_here}
 use Rattle.run_steps.proofs.Walks.{takes_here, with_top}
 use Rattle.run_steps.proofs.on_records.replace.Goals as goal
 
-pub returns-in-Ok : goal.returns-in-Ok
-returns-in-Ok g c = λ t s f k.
+pub returns-in-Ok-clause-stands : goal.returns-in-Ok-clause-stands
+returns-in-Ok-clause-stands g c = λ t s f k.
     let there = takes_here (here c.args.store.now) c.args.field c.kind_here-kind.result t f.0
     c.kind_here-kind.ensures k in (
-      c.discard.ensures t s there,
+      c.discard.ensures.stands t s there,
       (rw c.from.ensures at c.in-Ok.ensures.ok) ∙ sym (with_top t c.top-value.result
           c.args.store.now (λ value. change_here (replaced_here c.args.field value) c.args.store.now)
           (c.top-value.ensures t s there)),
