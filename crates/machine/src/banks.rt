@@ -18,6 +18,7 @@ use crate::showing::{ShownAt, place_shown_by};
 use calendar::Day;
 use code_items::Code;
 use code_items::instr::Instr;
+use code_items::laws::legal_codes;
 use fit_laws::laws::fitting_worlds_are_safe_here;
 use key_lists::KeyList;
 use line_journal::KeptLine;

@@ -8,6 +8,7 @@ ghost use Rattle.work_area.specs.Areas.{AreApart};
 
 use crate::scratch::TestScratch;
 use calendar::Day;
+use code_items::laws::legal_codes;
 use key_lists::KeyList;
 use legal_code::LegalCode;
 use run_laws::laws::openings_have_the_shape;
