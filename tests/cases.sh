@@ -1,5 +1,5 @@
 # For scripts of sh that try the program: they read this file first. It leaves the program in $program and a folder of
-# their own in $room, and has them end with `verdict`.
+# their own in $room, and has them end with `verdict`, which is that of tests/harness.py.
 . "$top/bin/help"
 program=$("$top/bin/dbrun" --which ${DBRUN_KIND:+"$DBRUN_KIND"}) || exit 1
 echo "the program: $program"
@@ -16,7 +16,7 @@ fails() {
     failed=$((failed + 1))
 }
 
-# case STATUS LAST-LINE-OF-STANDARD-ERROR WORDS..
+# case_of STATUS LAST-LINE-OF-STANDARD-ERROR WORDS..
 case_of() {
     wanted=$1; said=$2; shift 2
     "$program" "$@" > out.txt 2> err.txt
@@ -44,7 +44,7 @@ holds() {
 }
 
 verdict() {
-    echo "$passed passed, $failed failed"
-    [ "$failed" -eq 0 ]
+    PYTHONPATH="$top/tests" python3 -B -c 'import sys, harness; sys.exit(harness.verdict(*map(int, sys.argv[1:])))' \
+        "$passed" "$failed"
     exit
 }
