@@ -50,6 +50,5 @@ pub fn csv_of(alloc: Global, table: &Table) -> Result<Vec<u8>, AllocError>
         put_row(alloc, &mut line, table, r)?;
         put_line(&mut writer, &line)?;
     }
-    let text = text_of(writer)?;
-    Ok(text)
+    text_of(writer)
 }
