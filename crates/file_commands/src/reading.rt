@@ -1,5 +1,4 @@
-// Files read: any, those of code and those of tables.
-#![tactic(auto)]
+//! Files read: code files, tables, and any others.
 
 ghost use Rattle.std.specs.Prelude.{◌≤◌, Some, length, IfOk, IfErr};
 ghost use Rattle.file_access.specs.Holding.{SameFiles};

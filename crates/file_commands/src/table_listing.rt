@@ -1,5 +1,4 @@
-// The listing of a table.
-#![tactic(auto)]
+//! The listing of a table.
 
 ghost use Rattle.std.specs.Prelude.{◌≡◌, ◌+◌, ◌<◌, ◌++◌, true, length, map, IfOk, IfErr, OnOk};
 ghost use Rattle.std.specs.List.{flat_map};
