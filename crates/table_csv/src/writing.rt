@@ -50,5 +50,6 @@ pub fn csv_of(alloc: Global, table: &Table) -> Result<Vec<u8>, AllocError>
         put_row(alloc, &mut line, table, r)?;
         put_line(&mut writer, &line)?;
     }
-    text_of(writer)
+    let text = text_of(writer)?;
+    Ok(text)
 }
