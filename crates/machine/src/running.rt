@@ -2,6 +2,7 @@
 
 ghost use Rattle.code_items.specs.Legal.{IsCode};
 ghost use Rattle.code_rules.specs.Rules.{Accepted};
+ghost use Rattle.machine.specs.Acceptance.{RunsWell};
 ghost use Rattle.machine.specs.Headline.{Headline};
 ghost use Rattle.machine.specs.Pauses.{GoesTo};
 ghost use Rattle.machine.specs.Twins.{BankState, Begins, Twin};
@@ -22,12 +23,11 @@ use std::alloc::Global;
 use work_area::laws::{stores_keep_their_shape, tables_keep_their_kind};
 use xverify::Verified;
 
-/// Runs an accepted code from banks that agree with a world in which the code may go on.
-fn go_on<K: KeyList>(alloc: Global, code: &Code, banks: &mut Banks<K>, budget: u64) -> Outcome
+/// The runs of an accepted code are safe, and keep what the verifier knows.
+fn accepted_codes_run_well(code: &Code)
     requires legal { IsCode code.now }
     requires accepted { Accepted code.now }
-    requires twin { (w : World) × Twin code.now w banks.old }
-    ensures { (w : World) → Twin code.now w banks.old → Headline code.now w budget result banks.new }
+    ensures { RunsWell code.now }
 {
     fitting_worlds_are_safe();
     runs_keep_fitting();
@@ -37,6 +37,16 @@ fn go_on<K: KeyList>(alloc: Global, code: &Code, banks: &mut Banks<K>, budget: u
     runs_cost_their_steps();
     runs_make_few_steps();
     safe_runs_meet_no_fault();
+}
+
+/// Runs an accepted code from banks that agree with a world in which the code may go on.
+fn go_on<K: KeyList>(alloc: Global, code: &Code, banks: &mut Banks<K>, budget: u64) -> Outcome
+    requires legal { IsCode code.now }
+    requires accepted { Accepted code.now }
+    requires twin { (w : World) × Twin code.now w banks.old }
+    ensures { (w : World) → Twin code.now w banks.old → Headline code.now w budget result banks.new }
+{
+    accepted_codes_run_well(code);
     let outcome = run_untested(alloc, code, &mut banks.decoded, &mut banks.machine, budget);
     banks.machine.store().open_indexes_list_keys();
     outcome
@@ -79,9 +89,9 @@ pub fn run<K: KeyList>(
 /// cost fits what is left of the budget. Whether the budget is spent is judged first. The run also pauses behind at
 /// least one step, before the first instruction on the screen at a marked place that it comes to. Marks are for such
 /// instructions: it pauses at others too, unless they are passed over within a block. No step that was taken took a
-/// line where none was left. At a pause the banks agree
-/// with the world before the next step, and a run may go on from there. What pieces of a run come to together are the
-/// laws `lines_behind_change_no_step` and `pieces_make_the_whole` of `run_laws`.
+/// line where none was left. At a pause the banks agree with the world before the next step, and a run may go on from
+/// there. What pieces of a run come to together are the laws `lines_behind_change_no_step` and `pieces_make_the_whole`
+/// of `run_laws`.
 pub fn resume_to_line<K: KeyList>(
     alloc: Global,
     verified: &Verified,
@@ -110,14 +120,7 @@ fn go_to_line<K: KeyList>(
     requires twin { (w : World) × Twin code.now w banks.old }
     ensures { (w : World) → Twin code.now w banks.old → GoesTo code.now w budget marks.now result banks.new }
 {
-    fitting_worlds_are_safe();
-    runs_keep_fitting();
-    fitting_worlds_keep_the_bounds();
-    stores_keep_their_shape();
-    tables_keep_their_kind();
-    runs_cost_their_steps();
-    runs_make_few_steps();
-    safe_runs_meet_no_fault();
+    accepted_codes_run_well(code);
     let leg = run_to_line(
         alloc,
         code,

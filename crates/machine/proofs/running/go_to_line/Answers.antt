@@ -1,42 +1,27 @@
 use Rattle.std.proofs.Common.{sym, subst}
 use Rattle.work_area.specs.Areas.{OpenIndexesList}
 use Rattle.run_steps.specs.Tables.{IsDecoded}
-use Rattle.machine.specs.Twins.{banks_of, AgreesWith, BankState}
-use Rattle.machine.proofs.Runs.{stands, goes_to}
+use Rattle.machine.specs.Twins.{BankState, Twin, banks_of}
+use Rattle.machine.proofs.Runs.{begins_safe, goes_to}
 use Rattle.machine.proofs.running.go_to_line.Goals as goal
 
 pub run_to_line-leg-requires-clause-safe : goal.run_to_line-leg-requires-clause-safe
 run_to_line-leg-requires-clause-safe g c =
-    let code = c.args.code.now in
-    let m = c.banks.inside.machine in
-    let d = c.banks.inside.decoded in
     let w = c.requires.twin.0 in
-    let t = c.requires.twin.1 in
-    let a : AgreesWith (banks_of m.place m.returns m.values m.env d) w = subst (λ b. AgreesWith b w) (sym c.banks.view_is) t.agrees in
-    (w, (stands (banks_of m.place m.returns m.values m.env d) w a, c.fitting_worlds_are_safe.ensures code c.requires.legal c.requires.accepted w t.fits))
+    let t = subst (Twin c.args.code.now w) (sym c.banks.view_is) c.requires.twin.1 in
+    (w, begins_safe c.args.code.now w c.banks.inside.machine c.banks.inside.decoded c.accepted_codes_run_well.ensures t)
 
 pub run_to_line-leg-requires-clause-decoded : goal.run_to_line-leg-requires-clause-decoded
-run_to_line-leg-requires-clause-decoded g c = subst (λ (b : BankState). IsDecoded c.args.code.now b.decoded) (sym c.banks.view_is) c.requires.twin.1.decoded
+run_to_line-leg-requires-clause-decoded g c =
+    subst (λ (b : BankState). IsDecoded c.args.code.now b.decoded) (sym c.banks.view_is) c.requires.twin.1.decoded
 
 pub returns : goal.returns
-returns g c = λ w t.
+returns g c = λ w twin.
     let code = c.args.code.now in
-    let legal = c.requires.legal in
-    let accepted = c.requires.accepted in
-    let m = c.banks.inside.machine in
-    let d = c.banks.inside.decoded in
-    let n = c.run_to_line-leg.new.machine in
-    let a : AgreesWith (banks_of m.place m.returns m.values m.env d) w = subst (λ b. AgreesWith b w) (sym c.banks.view_is) t.agrees in
-    let safe = c.fitting_worlds_are_safe.ensures code legal accepted in
-    let ends = c.run_to_line-leg.ensures.leg w (stands (banks_of m.place m.returns m.values m.env d) w a) (safe w t.fits) in
-    goes_to code (record {
-      safe = safe;
-      fits = c.runs_keep_fitting.ensures code legal accepted;
-      stack = c.fitting_worlds_keep_the_bounds.ensures.stack code;
-      returns = c.fitting_worlds_keep_the_bounds.ensures.returns code;
-      steps = c.safe_runs_meet_no_fault.ensures.steps code;
-      end = c.safe_runs_meet_no_fault.ensures.end code;
-      few = c.runs_cost_their_steps.ensures code;
-      made = c.runs_make_few_steps.ensures code;
-      keeps = λ shape. record { stores = c.stores_keep_their_shape.ensures shape; tables = c.tables_keep_their_kind.ensures };
-    }) w c.args.budget c.args.marks.now c.run_to_line-leg.result (banks_of n.place n.returns n.values n.env c.run_to_line-leg.new.decoded) t.fits (subst OpenIndexesList c.store.ensures c.open_indexes_list_keys.ensures) c.run_to_line-leg.ensures.decoded ends
+    let runs = c.accepted_codes_run_well.ensures in
+    let n = c.run_to_line-leg.new in
+    let t = subst (Twin code w) (sym c.banks.view_is) twin in
+    let from = begins_safe code w c.banks.inside.machine c.banks.inside.decoded runs t in
+    goes_to code runs w c.args.budget c.args.marks.now c.run_to_line-leg.result (banks_of n.machine n.decoded) t.fits
+    (subst OpenIndexesList c.store.ensures c.open_indexes_list_keys.ensures) c.run_to_line-leg.ensures.decoded
+    (c.run_to_line-leg.ensures.leg w from.0 from.1)
