@@ -66,12 +66,26 @@ begun code w b opens s = record {
 
 -- ---- the run
 
--- banks that a world of the code's runs agrees with stand for it, and a run from it is safe
-pub begins_safe : {K : Type 0} (code : Code) (w : World) (m : Machine Untagged K) (decoded : Decoded) → RunsWell code
-    → Twin code w (banks_of m decoded) → StandsFor IsByKind m w × IsSafe code w
-begins_safe code w m decoded runs t = (stands (banks_of m decoded) w t.agrees, runs.safe w t.fits)
+-- a machine that stands for a world of the code's runs, and what the code is decoded to
+pub record SafeFrom {K : Type 0} (code : Code) (w : World) (m : Machine Untagged K) (d : Decoded) : Type 0 where
+  pub stands : StandsFor IsByKind m w
+  pub safe : IsSafe code w
+  pub decoded : IsDecoded code d
+  pub fits : IsFitting code w
 
-unfoldable pub headline : (code : Code) → RunsWell code → (from : World) (budget : ℕ) (outcome : Outcome) (b : BankState)
+pub safe_from : {K : Type 0} (code : Code) (w : World) (m : Machine Untagged K) (d : Decoded) (b : BankState)
+    → banks_of m d ≡ b → RunsWell code → Twin code w b → SafeFrom code w m d
+safe_from code w m d b view runs twin =
+    let t = subst (Twin code w) (sym view) twin in
+    record {
+      stands = stands (banks_of m d) w t.agrees;
+      safe = runs.safe w t.fits;
+      decoded = t.decoded;
+      fits = t.fits;
+    }
+
+unfoldable pub headline : (code : Code) → RunsWell code
+    → (from : World) (budget : ℕ) (outcome : Outcome) (b : BankState)
     → IsFitting code from → OpenIndexesList b.env.store → IsDecoded code b.decoded
     → EndsRun code from budget outcome (IsByKind b.values) b.place b.returns b.env → Headline code from budget outcome b
 headline code runs from budget outcome b fit lists decoded ends =
@@ -124,7 +138,8 @@ paused code runs from budget steps b fit lists decoded p =
       goes_on = record { agrees = same; fits = there; decoded = decoded };
     }
 
-pub goes_to : (code : Code) → RunsWell code → (from : World) (budget : ℕ) (marks : List Bool) (leg : Leg) (b : BankState)
+pub goes_to : (code : Code) → RunsWell code → (from : World) (budget : ℕ) (marks : List Bool) (leg : Leg)
+    (b : BankState)
     → IsFitting code from → OpenIndexesList b.env.store → IsDecoded code b.decoded
     → IsLeg code from budget marks leg (IsByKind b.values) b.place b.returns b.env → GoesTo code from budget marks leg b
 unfolding headline paused
