@@ -40,33 +40,22 @@ pub record IsNoIndex (holds : Option (List ℕ) → Type 0) (fault : TreeFault) 
 abbrev pub FileFault : (Option (List ℕ) → Type 0) → Fault → Type 0
 FileFault holds Absent = holds None
 FileFault holds TooLong = IsTooLong holds
-FileFault holds (OfCode fault) = ⊥
-FileFault holds (OfTable fault) = ⊥
-FileFault holds (OfIndex fault) = ⊥
+FileFault holds _ = ⊥
 
 -- of a code file
 abbrev pub CodeFileFault : (Option (List ℕ) → Type 0) → Fault → Type 0
-CodeFileFault holds Absent = holds None
-CodeFileFault holds TooLong = IsTooLong holds
 CodeFileFault holds (OfCode fault) = HasCodeFault holds fault
-CodeFileFault holds (OfTable fault) = ⊥
-CodeFileFault holds (OfIndex fault) = ⊥
+CodeFileFault holds fault = FileFault holds fault
 
 -- of a table's file
 abbrev pub TableFault : (Option (List ℕ) → Type 0) → Fault → Type 0
-TableFault holds Absent = holds None
-TableFault holds TooLong = IsTooLong holds
-TableFault holds (OfCode fault) = ⊥
 TableFault holds (OfTable fault) = IsNoTable holds fault
-TableFault holds (OfIndex fault) = ⊥
+TableFault holds fault = FileFault holds fault
 
 -- of an index file
 abbrev pub IndexFault : (Option (List ℕ) → Type 0) → Fault → Type 0
-IndexFault holds Absent = holds None
-IndexFault holds TooLong = IsTooLong holds
-IndexFault holds (OfCode fault) = ⊥
-IndexFault holds (OfTable fault) = ⊥
 IndexFault holds (OfIndex fault) = IsNoIndex holds fault
+IndexFault holds fault = FileFault holds fault
 
 -- why a command isn't carried out: a fault of the file of that name which the command may tell, a device failure that
 -- was counted, or memory

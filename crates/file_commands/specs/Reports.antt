@@ -5,10 +5,11 @@ use Rattle.xcode.specs.CodeFile.{CodeText}
 use Rattle.code_rules.specs.Rules.{Accepted, FirstRefusal}
 use Rattle.xcode.specs.Listing.{lines_from}
 use Rattle.xverify.specs.declared.verified.FailedRule.{FailedRule as RefusedRule}
-use Rattle.file_commands.specs.Lines.{table_lines, index_lines}
+use Rattle.file_commands.specs.Lines.{index_lines}
+use Rattle.dbf_file.specs.declared.field.Field.{Field}
 use Rattle.dbf_file.specs.declared.stamp.Stamp.{Stamp}
 use Rattle.dbf_file.specs.Rows.{Row}
-use Rattle.dbf_file.specs.Tables.{StructureState, DbfText}
+use Rattle.dbf_file.specs.Tables.{DbfText, TableState}
 use Rattle.ndx_tree.specs.IndexFile.{IsIndexFile}
 use Rattle.key_lists.specs.KeyForm.{KeyForm}
 use Rattle.key_lists.specs.Pairs.{Pair}
@@ -36,16 +37,20 @@ pub record ListedCode (holds : Option (List ℕ) → Type 0) (lines : List ℕ) 
   pub file : IsCodeFile holds code
   pub lines_are : lines ≡ lines_from 0 code.instructions
 
--- these are the lines of the table in the file, which has at most a million rows
-pub record TableListed (holds : Option (List ℕ) → Type 0) (lines : List ℕ) : Type 0 where
+-- what the file may hold is the text of a table of at most a million rows
+pub record HoldsTable (holds : Option (List ℕ) → Type 0) (table : TableState) : Type 0 where
   pub bytes : List ℕ
-  pub structure : StructureState
-  pub rows : List Row
   pub stamp : Stamp
   pub held : holds (Some bytes)
-  pub text : DbfText structure rows stamp bytes
-  pub few : length rows ≤ 1000000
-  pub lines_are : lines ≡ table_lines structure.fields rows
+  pub text : DbfText table.structure table.rows stamp bytes
+  pub few : length table.rows ≤ 1000000
+
+-- these lines are made of the fields and the rows of the table in the file
+pub record TableListed (lines_of : List Field → List Row → List ℕ) (holds : Option (List ℕ) → Type 0) (lines : List ℕ)
+    : Type 0 where
+  pub table : TableState
+  pub file : HoldsTable holds table
+  pub lines_are : lines ≡ lines_of table.structure.fields table.rows
 
 -- these are the lines of the index in the file
 pub record IndexListed (holds : Option (List ℕ) → Type 0) (lines : List ℕ) : Type 0 where

@@ -1,5 +1,4 @@
-// The listing of an index file.
-#![tactic(auto)]
+//! The listing of an index file.
 
 ghost use Rattle.std.specs.Prelude.{◌≡◌, ◌++◌, IfOk, IfErr, OnOk};
 ghost use Rattle.std.specs.List.{flat_map};

@@ -15,8 +15,8 @@ mod table_listing;
 
 pub use crate::index_listing::list_index;
 pub use crate::listing::{list_code, verify_file};
-pub use crate::reading::{read_bytes, read_code};
+pub use crate::reading::{read_code, read_table};
 pub use crate::refusal::{Fault, Refusal};
 pub use crate::status::{Status, of_refusal};
-pub use crate::table_listing::{ROW_LIMIT, list_table};
+pub use crate::table_listing::list_table;
 pub use file_access::{Files, MemoryEntry, MemoryFiles, ReadFault, read_within};

@@ -1,5 +1,4 @@
-// Numbers in the lines of listings.
-#![tactic(auto)]
+//! Numbers in the lines of listings.
 
 ghost use Rattle.std.specs.Prelude.{◌≡◌, ◌++◌, OnOk};
 ghost use Rattle.std.specs.Fmt.{decimal};

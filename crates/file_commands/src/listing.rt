@@ -1,5 +1,4 @@
-// What is told of code files without running them.
-#![tactic(auto)]
+//! What is told of code files without running them.
 
 ghost use Rattle.std.specs.Prelude.{IfOk, IfErr};
 ghost use Rattle.file_access.specs.Holding.{SameFiles};

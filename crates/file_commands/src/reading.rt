@@ -1,18 +1,21 @@
-// Code files read.
-#![tactic(auto)]
+//! Files read: code files, tables, and any others.
 
 ghost use Rattle.std.specs.Prelude.{◌≤◌, Some, length, IfOk, IfErr};
 ghost use Rattle.file_access.specs.Holding.{SameFiles};
-ghost use Rattle.file_commands.specs.Refusals.{RefusalIs, CodeFileFault, FileFault};
-ghost use Rattle.file_commands.specs.Reports.{IsCodeFile};
+ghost use Rattle.file_commands.specs.Refusals.{RefusalIs, CodeFileFault, FileFault, TableFault};
+ghost use Rattle.file_commands.specs.Reports.{IsCodeFile, HoldsTable};
 
 use crate::refusal::{Fault, Refusal};
+use dbf_file::{DbfFault, Table, read};
 use file_access::{FILE_LIMIT, Files, ReadFault};
 use std::alloc::Global;
 use xcode::{CodeFault, LegalCode, decode};
 
+/// The most rows of a table that is listed.
+const ROW_LIMIT: usize = 1_000_000;
+
 /// The bytes of a file of at most 64 MiB.
-pub fn read_bytes<'a, F: Files>(
+pub(crate) fn read_bytes<'a, F: Files>(
     alloc: Global,
     files: &mut F,
     name: &'a str,
@@ -58,6 +61,28 @@ pub fn read_code<'a, F: Files>(
         Err(fault) => Err(Refusal::Refused {
             name,
             fault: Fault::OfCode(fault),
+        }),
+    }
+}
+
+/// The table in a file, of at most a million rows.
+pub fn read_table<'a, F: Files>(
+    alloc: Global,
+    files: &mut F,
+    name: &'a str,
+) -> Result<Table, Refusal<'a>>
+    ensures found { IfOk result (λ table. HoldsTable (F.holds files.old name.now) table) }
+    ensures refused { IfErr result (RefusalIs (TableFault (F.holds files.old name.now)) (F.failed files.old)
+        (F.failed files.new) name.now) }
+    ensures kept { SameFiles (F.holds files.old) (F.holds files.new) }
+{
+    let bytes = read_bytes(alloc, files, name)?;
+    match read(alloc, bytes.as_slice(), ROW_LIMIT) {
+        Ok(table) => Ok(table),
+        Err(DbfFault::Memory) => Err(Refusal::Memory),
+        Err(fault) => Err(Refusal::Refused {
+            name,
+            fault: Fault::OfTable(fault),
         }),
     }
 }

@@ -1,5 +1,4 @@
-// Why a command isn't carried out.
-#![tactic(auto)]
+//! Why a command isn't carried out.
 
 use dbf_file::DbfFault;
 use ndx_tree::TreeFault;

@@ -1,5 +1,4 @@
-// Exit statuses.
-#![tactic(auto)]
+//! Exit statuses.
 
 ghost use Rattle.std.specs.Prelude.{◌≡◌};
 ghost use Rattle.file_commands.specs.Refusals.{status_of};

@@ -1,5 +1,4 @@
-// The listing of a table.
-#![tactic(auto)]
+//! The listing of a table.
 
 ghost use Rattle.std.specs.Prelude.{◌≡◌, ◌+◌, ◌<◌, ◌++◌, true, length, map, IfOk, IfErr, OnOk};
 ghost use Rattle.std.specs.List.{flat_map};
@@ -12,16 +11,13 @@ ghost use Rattle.file_commands.specs.Refusals.{RefusalIs, TableFault};
 ghost use Rattle.file_commands.specs.Reports.{TableListed};
 
 use crate::lines::{put_decimal, put_right};
-use crate::reading::read_bytes;
-use crate::refusal::{Fault, Refusal};
+use crate::reading::read_table;
+use crate::refusal::Refusal;
 use dbf_file::laws::{fields_are_good, fields_have_shapes};
-use dbf_file::{DbfFault, Field, Table, read, value};
+use dbf_file::{Field, Table, value};
 use file_access::Files;
 use std::alloc::{AllocError, Global};
 use xvalue::Settings;
-
-/// The most rows of a table that is listed.
-pub const ROW_LIMIT: usize = 1_000_000;
 
 #[tactic(auto, unfolding(crate::specs::Lines::field_line))]
 fn put_field(alloc: Global, out: &mut Vec<u8>, field: &Field) -> Result<(), AllocError>
@@ -139,22 +135,12 @@ pub fn list_table<'a, F: Files>(
     files: &mut F,
     name: &'a str,
 ) -> Result<Vec<u8>, Refusal<'a>>
-    ensures listed { IfOk result (λ lines. TableListed (F.holds files.old name.now) lines.items) }
+    ensures listed { IfOk result (λ lines. TableListed table_lines (F.holds files.old name.now) lines.items) }
     ensures refused { IfErr result (RefusalIs (TableFault (F.holds files.old name.now)) (F.failed files.old)
         (F.failed files.new) name.now) }
     ensures kept { SameFiles (F.holds files.old) (F.holds files.new) }
 {
-    let bytes = read_bytes(alloc, files, name)?;
-    let table = match read(alloc, bytes.as_slice(), ROW_LIMIT) {
-        Ok(table) => table,
-        Err(DbfFault::Memory) => return Err(Refusal::Memory),
-        Err(fault) => {
-            return Err(Refusal::Refused {
-                name,
-                fault: Fault::OfTable(fault),
-            });
-        }
-    };
+    let table = read_table(alloc, files, name)?;
     match lines_of(alloc, &table) {
         Ok(lines) => Ok(lines),
         Err(_) => Err(Refusal::Memory),

@@ -37,19 +37,10 @@ pub record IsTooLong (holds : Holds) (name : List ℕ) : Type 0 where
 -- Why no bytes are read: the name is no text, there is no such file, it is too long, or the device failed.
 abbrev pub NotRead : Holds → List ℕ → Note → Type 0
 NotRead holds name note.NoText = IsUtf8 name → ⊥
-NotRead holds name note.SmallLetters = ⊥
-NotRead holds name note.NoName = ⊥
 NotRead holds name note.Gone = holds name None
 NotRead holds name note.TooLong = IsTooLong holds name
 NotRead holds name note.Unreadable = Unit {0}
-NotRead holds name (note.Version byte) = ⊥
-NotRead holds name (note.NoTable fault) = ⊥
-NotRead holds name note.TooMany = ⊥
-NotRead holds name (note.NoIndex fault) = ⊥
-NotRead holds name note.Numbers = ⊥
-NotRead holds name note.NoOwner = ⊥
-NotRead holds name note.ManyOwners = ⊥
-NotRead holds name note.Stale = ⊥
+NotRead holds name _ = ⊥
 
 -- ---- tables
 
@@ -60,21 +51,10 @@ IsTable bytes found = (stamp : Stamp) × DbfText found.table.structure found.tab
 -- The bytes are no table's file of at most a million rows: by a first byte that isn't 3, which is told, or by another
 -- fault.
 abbrev pub NoTableIs : List ℕ → Note → Type 0
-NoTableIs bytes note.NoText = ⊥
-NoTableIs bytes note.SmallLetters = ⊥
-NoTableIs bytes note.NoName = ⊥
-NoTableIs bytes note.Gone = ⊥
-NoTableIs bytes note.TooLong = ⊥
-NoTableIs bytes note.Unreadable = ⊥
 NoTableIs bytes (note.Version byte) =
     (first_fault 1000000 bytes ≡ Some table_fault.Version) × (slice_index bytes 0 ≡ byte)
 NoTableIs bytes (note.NoTable fault) = first_fault 1000000 bytes ≡ Some fault
-NoTableIs bytes note.TooMany = ⊥
-NoTableIs bytes (note.NoIndex fault) = ⊥
-NoTableIs bytes note.Numbers = ⊥
-NoTableIs bytes note.NoOwner = ⊥
-NoTableIs bytes note.ManyOwners = ⊥
-NoTableIs bytes note.Stale = ⊥
+NoTableIs bytes _ = ⊥
 
 -- the file may hold this table
 abbrev pub IsTableFile : Holds → List ℕ → FoundTable → Type 0
@@ -89,20 +69,9 @@ NoTableFile holds name told =
 
 -- The bytes are no index file: by keys of numbers, or by another fault.
 abbrev pub NoIndexIs : List ℕ → Note → Type 0
-NoIndexIs bytes note.NoText = ⊥
-NoIndexIs bytes note.SmallLetters = ⊥
-NoIndexIs bytes note.NoName = ⊥
-NoIndexIs bytes note.Gone = ⊥
-NoIndexIs bytes note.TooLong = ⊥
-NoIndexIs bytes note.Unreadable = ⊥
-NoIndexIs bytes (note.Version byte) = ⊥
-NoIndexIs bytes (note.NoTable fault) = ⊥
-NoIndexIs bytes note.TooMany = ⊥
 NoIndexIs bytes (note.NoIndex fault) = IsFirstFault bytes fault
 NoIndexIs bytes note.Numbers = IsFirstFault bytes tree_fault.Head × (slice_range bytes 16 18 ≢ 0 ∷ 0 ∷ [])
-NoIndexIs bytes note.NoOwner = ⊥
-NoIndexIs bytes note.ManyOwners = ⊥
-NoIndexIs bytes note.Stale = ⊥
+NoIndexIs bytes _ = ⊥
 
 -- the file may hold this index
 abbrev pub IsFileOfIndex : Holds → List ℕ → KeyForm → List Pair → Type 0

@@ -59,22 +59,12 @@ pub record MayDeclare (s : State) (name : List ℕ) (t : FoundTable) (shape : Ta
 
 -- Why it isn't: no table can have the name, it has small letters, or there are 32 tables or one of that name.
 abbrev pub MayNotDeclare : State → List ℕ → FoundTable → Note → Type 0
-MayNotDeclare s name t note.NoText = ⊥
 MayNotDeclare s name t note.SmallLetters = has_small name ≡ true
 MayNotDeclare s name t note.NoName =
     (10 < length (stem name)) ⊎ ((shape : TableShape) × DeclaresFound name t shape × (is_table shape ≡ false))
-MayNotDeclare s name t note.Gone = ⊥
-MayNotDeclare s name t note.TooLong = ⊥
-MayNotDeclare s name t note.Unreadable = ⊥
-MayNotDeclare s name t (note.Version byte) = ⊥
-MayNotDeclare s name t (note.NoTable fault) = ⊥
 MayNotDeclare s name t note.TooMany =
     (32 ≤ length s.found) ⊎ ((shape : TableShape) × DeclaresFound name t shape × (is_next_table s.tables shape ≡ false))
-MayNotDeclare s name t (note.NoIndex fault) = ⊥
-MayNotDeclare s name t note.Numbers = ⊥
-MayNotDeclare s name t note.NoOwner = ⊥
-MayNotDeclare s name t note.ManyOwners = ⊥
-MayNotDeclare s name t note.Stale = ⊥
+MayNotDeclare s name t _ = ⊥
 
 abbrev pub with_found_table : TableShape → FoundTable → State → State
 with_found_table shape t s = record {
@@ -111,20 +101,9 @@ is_stale found form pairs t = stale_by (listed_tables found form pairs) t form.k
 
 -- why no table owns it
 abbrev pub NotOwned : List FoundTable → KeyForm → List Pair → Note → Type 0
-NotOwned found form pairs note.NoText = ⊥
-NotOwned found form pairs note.SmallLetters = ⊥
-NotOwned found form pairs note.NoName = ⊥
-NotOwned found form pairs note.Gone = ⊥
-NotOwned found form pairs note.TooLong = ⊥
-NotOwned found form pairs note.Unreadable = ⊥
-NotOwned found form pairs (note.Version byte) = ⊥
-NotOwned found form pairs (note.NoTable fault) = ⊥
-NotOwned found form pairs note.TooMany = ⊥
-NotOwned found form pairs (note.NoIndex fault) = ⊥
-NotOwned found form pairs note.Numbers = ⊥
 NotOwned found form pairs note.NoOwner = owner_of found form pairs ≡ owner.Nobody
 NotOwned found form pairs note.ManyOwners = owner_of found form pairs ≡ owner.Unknown
-NotOwned found form pairs note.Stale = ⊥
+NotOwned found form pairs _ = ⊥
 
 -- the declaration of an index of this form and these pairs in a file of that name: its table is the owner, and its key
 -- the one that the table's text fields make
@@ -141,23 +120,13 @@ pub record MayIndex (s : State) (name : List ℕ) (form : KeyForm) (pairs : List
   pub next : is_next_index s.tables s.indexes index ≡ true
 
 abbrev pub MayNotIndex : State → List ℕ → KeyForm → List Pair → Note → Type 0
-MayNotIndex s name form pairs note.NoText = ⊥
 MayNotIndex s name form pairs note.SmallLetters = has_small name ≡ true
 MayNotIndex s name form pairs note.NoName = (10 < length (stem name))
     ⊎ ((index : IndexShape) × Indexes s.found name form pairs index × (is_index s.tables index ≡ false))
-MayNotIndex s name form pairs note.Gone = ⊥
-MayNotIndex s name form pairs note.TooLong = ⊥
-MayNotIndex s name form pairs note.Unreadable = ⊥
-MayNotIndex s name form pairs (note.Version byte) = ⊥
-MayNotIndex s name form pairs (note.NoTable fault) = ⊥
 MayNotIndex s name form pairs note.TooMany = (64 ≤ length s.indexes)
     ⊎ ((index : IndexShape) × Indexes s.found name form pairs index
     × (is_next_index s.tables s.indexes index ≡ false))
-MayNotIndex s name form pairs (note.NoIndex fault) = ⊥
-MayNotIndex s name form pairs note.Numbers = ⊥
-MayNotIndex s name form pairs note.NoOwner = NotOwned s.found form pairs note.NoOwner
-MayNotIndex s name form pairs note.ManyOwners = NotOwned s.found form pairs note.ManyOwners
-MayNotIndex s name form pairs note.Stale = ⊥
+MayNotIndex s name form pairs told = NotOwned s.found form pairs told
 
 -- an index that is declared, with a note behind it where it is stale
 abbrev pub stale_note : ℕ → Bool → List FolderLine

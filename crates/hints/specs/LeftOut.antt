@@ -11,7 +11,7 @@ use Rattle.hints.specs.declared.left_out.LeftOut.TheVariants as it
 abbrev pub NamedThing : Type 0
 NamedThing = List ℕ × Thing
 
--- what the first word of a list that this one is, perhaps cut, is left out with
+-- what is left out with the first word of a list that this one is; it may be cut to its first letters, four or more
 abbrev pub first_named : List NamedThing → List ℕ → Option Thing
 first_named [] letters = None
 first_named (x ∷ xs) letters = if is_cut letters x.0 then Some x.1 else first_named xs letters
@@ -21,98 +21,82 @@ one whole found = (whole, found) ∷ []
 
 -- ---- lists of words
 
-abbrev pub searches : List NamedThing
-searches = (codes "LOCATE", it.Locate) ∷ (codes "CONTINUE", it.Locate) ∷ (codes "FIND", it.Find)
-    ∷ (codes "COUNT", it.Sums) ∷ (codes "SUM", it.Sums) ∷ (codes "AVERAGE", it.Sums) ∷ []
-
-abbrev pub tables : List NamedThing
-tables = (codes "LIST", it.Listings) ∷ (codes "DISPLAY", it.Listings) ∷ (codes "CREATE", it.Structures)
-    ∷ (codes "MODIFY", it.Structures) ∷ (codes "TOTAL", it.Totals) ∷ (codes "UPDATE", it.Totals) ∷ []
-
-abbrev pub copies : List NamedThing
-copies = (codes "COPY", it.Copies) ∷ (codes "SORT", it.Copies) ∷ (codes "JOIN", it.Copies) ∷ (codes "INSERT", it.Copies)
-    ∷ (codes "BROWSE", it.ByHand) ∷ (codes "EDIT", it.ByHand) ∷ (codes "CHANGE", it.ByHand) ∷ []
-
-abbrev pub forms : List NamedThing
-forms = (codes "REPORT", it.Reports) ∷ (codes "LABEL", it.Reports) ∷ (codes "SAVE", it.Saved)
-    ∷ (codes "RESTORE", it.Saved) ∷ (codes "INPUT", it.Input) ∷ (codes "TEXT", it.Texts) ∷ (codes "ENDTEXT", it.Texts)
-    ∷ (codes "EJECT", it.Printer) ∷ []
-
-abbrev pub programs : List NamedThing
-programs = (codes "RUN", it.Others) ∷ (codes "CALL", it.Others) ∷ (codes "LOAD", it.Others) ∷ (codes "DIR", it.Others)
-    ∷ (codes "DIRECTORY", it.Others) ∷ (codes "ERASE", it.Others) ∷ (codes "RENAME", it.Others) ∷ []
-
-abbrev pub variables : List NamedThing
-variables = (codes "PUBLIC", it.Public) ∷ (codes "DECLARE", it.Arrays) ∷ (codes "DIMENSION", it.Arrays)
-    ∷ (codes "ON", it.On) ∷ (codes "RETRY", it.On) ∷ (codes "SUSPEND", it.On) ∷ (codes "RESUME", it.On) ∷ []
-
-abbrev pub prompts : List NamedThing
-prompts = (codes "HELP", it.Prompt) ∷ (codes "ASSIST", it.Prompt) ∷ (codes "TYPE", it.Others)
+-- commands that are left out in every form
+abbrev pub left_out_commands : List NamedThing
+left_out_commands =
+    (codes "LOCATE", it.Locate) ∷ (codes "CONTINUE", it.Locate) ∷ (codes "FIND", it.Find) ∷ (codes "COUNT", it.Sums)
+    ∷ (codes "SUM", it.Sums) ∷ (codes "AVERAGE", it.Sums) ∷ (codes "LIST", it.Listings)
+    ∷ (codes "DISPLAY", it.Listings) ∷ (codes "CREATE", it.Structures) ∷ (codes "MODIFY", it.Structures)
+    ∷ (codes "TOTAL", it.Totals) ∷ (codes "UPDATE", it.Totals) ∷ (codes "COPY", it.Copies)
+    ∷ (codes "SORT", it.Copies) ∷ (codes "JOIN", it.Copies) ∷ (codes "INSERT", it.Copies)
+    ∷ (codes "BROWSE", it.ByHand) ∷ (codes "EDIT", it.ByHand) ∷ (codes "CHANGE", it.ByHand)
+    ∷ (codes "REPORT", it.Reports) ∷ (codes "LABEL", it.Reports) ∷ (codes "SAVE", it.Saved)
+    ∷ (codes "RESTORE", it.Saved) ∷ (codes "INPUT", it.Input) ∷ (codes "TEXT", it.Texts)
+    ∷ (codes "ENDTEXT", it.Texts) ∷ (codes "EJECT", it.Printer) ∷ (codes "RUN", it.Others)
+    ∷ (codes "CALL", it.Others) ∷ (codes "LOAD", it.Others) ∷ (codes "DIR", it.Others)
+    ∷ (codes "DIRECTORY", it.Others) ∷ (codes "ERASE", it.Others) ∷ (codes "RENAME", it.Others)
+    ∷ (codes "PUBLIC", it.Public) ∷ (codes "DECLARE", it.Arrays) ∷ (codes "DIMENSION", it.Arrays)
+    ∷ (codes "ON", it.On) ∷ (codes "RETRY", it.On) ∷ (codes "SUSPEND", it.On) ∷ (codes "RESUME", it.On)
+    ∷ (codes "HELP", it.Prompt) ∷ (codes "ASSIST", it.Prompt) ∷ (codes "TYPE", it.Others)
     ∷ (codes "IMPORT", it.Others) ∷ (codes "EXPORT", it.Others) ∷ (codes "UNLOCK", it.Locks)
     ∷ (codes "LOGOUT", it.Locks) ∷ []
 
 -- commands that are there, but not in every form
 abbrev pub other_forms : List NamedThing
-other_forms = (codes "APPEND", it.ByHand) ∷ (codes "SELECT", it.SelectZero) ∷ []
+other_forms =
+    (codes "APPEND", it.ByHand) ∷ (codes "SELECT", it.SelectZero) ∷ []
 
 -- behind SET
 abbrev pub settings : List NamedThing
-settings = (codes "RELATION", it.Relation) ∷ (codes "INDEX", it.OpenIndexes) ∷ (codes "DECIMALS", it.Decimals)
+settings =
+    (codes "RELATION", it.Relation) ∷ (codes "INDEX", it.OpenIndexes) ∷ (codes "DECIMALS", it.Decimals)
     ∷ (codes "FIXED", it.Decimals) ∷ (codes "DATE", it.DateForm) ∷ (codes "PRINT", it.Printer)
-    ∷ (codes "DEVICE", it.Printer) ∷ (codes "ALTERNATE", it.Printer) ∷ []
-
--- behind SET, of forms, folders, keys and locks
-abbrev pub more_settings : List NamedThing
-more_settings = (codes "FORMAT", it.Formats) ∷ (codes "UNIQUE", it.Unique) ∷ (codes "CARRY", it.Carry)
-    ∷ (codes "CONSOLE", it.Printer) ∷ (codes "DEFAULT", it.Paths) ∷ (codes "PATH", it.Paths)
-    ∷ (codes "FUNCTION", it.Keys) ∷ (codes "EXCLUSIVE", it.Locks) ∷ []
+    ∷ (codes "DEVICE", it.Printer) ∷ (codes "ALTERNATE", it.Printer) ∷ (codes "FORMAT", it.Formats)
+    ∷ (codes "UNIQUE", it.Unique) ∷ (codes "CARRY", it.Carry) ∷ (codes "CONSOLE", it.Printer)
+    ∷ (codes "DEFAULT", it.Paths) ∷ (codes "PATH", it.Paths) ∷ (codes "FUNCTION", it.Keys)
+    ∷ (codes "EXCLUSIVE", it.Locks) ∷ []
 
 -- behind CLEAR
 abbrev pub parts_to_clear : List NamedThing
-parts_to_clear = (codes "ALL", it.ClearParts) ∷ (codes "MEMORY", it.ClearParts) ∷ (codes "GETS", it.ClearParts)
+parts_to_clear =
+    (codes "ALL", it.ClearParts) ∷ (codes "MEMORY", it.ClearParts) ∷ (codes "GETS", it.ClearParts)
     ∷ (codes "FIELDS", it.ClearParts) ∷ (codes "TYPEAHEAD", it.ClearParts) ∷ []
 
 -- behind CLOSE
 abbrev pub parts_to_close : List NamedThing
-parts_to_close = (codes "INDEX", it.OpenIndexes) ∷ (codes "ALTERNATE", it.Printer) ∷ (codes "FORMAT", it.Formats)
+parts_to_close =
+    (codes "INDEX", it.OpenIndexes) ∷ (codes "ALTERNATE", it.Printer) ∷ (codes "FORMAT", it.Formats)
     ∷ (codes "PROCEDURE", it.Closing) ∷ []
 
 -- behind RELEASE
 abbrev pub parts_to_release : List NamedThing
-parts_to_release = (codes "ALL", it.ReleaseAll) ∷ (codes "MODULE", it.Others) ∷ []
+parts_to_release =
+    (codes "ALL", it.ReleaseAll) ∷ (codes "MODULE", it.Others) ∷ []
 
+-- within a line
 abbrev pub clauses : List NamedThing
 clauses =
     (codes "ALL", it.Scopes) ∷ (codes "NEXT", it.Scopes) ∷ (codes "RECORD", it.Scopes) ∷ (codes "WHILE", it.Scopes)
     ∷ (codes "FOR", it.Scopes) ∷ (codes "ALIAS", it.Alias) ∷ (codes "PICTURE", it.Pictures)
     ∷ (codes "RANGE", it.Pictures) ∷ (codes "UNIQUE", it.Unique) ∷ (codes "EXCLUSIVE", it.Locks) ∷ []
 
--- ---- functions
-
+-- functions, whatever their arguments
 abbrev pub functions : List NamedThing
-functions = (codes "TYPE", it.Type) ∷ (codes "TRANSFORM", it.Transform) ∷ (codes "TIME", it.Time)
-    ∷ (codes "SQRT", it.Powers) ∷ (codes "EXP", it.Powers) ∷ (codes "LOG", it.Powers) ∷ []
-
-abbrev pub of_keys : List NamedThing
-of_keys = (codes "INKEY", it.Keys) ∷ (codes "READKEY", it.Keys) ∷ (codes "FKLABEL", it.Keys) ∷ (codes "FKMAX", it.Keys)
-    ∷ (codes "ROW", it.Cursor) ∷ (codes "COL", it.Cursor) ∷ (codes "PROW", it.Cursor) ∷ (codes "PCOL", it.Cursor) ∷ []
-
-abbrev pub of_machines : List NamedThing
-of_machines = (codes "FILE", it.Machine) ∷ (codes "DISKSPACE", it.Machine) ∷ (codes "GETENV", it.Machine)
-    ∷ (codes "OS", it.Machine) ∷ (codes "VERSION", it.Machine) ∷ (codes "ISCOLOR", it.Machine)
-    ∷ (codes "ACCESS", it.Access) ∷ []
-
-abbrev pub of_structures : List NamedThing
-of_structures = (codes "DBF", it.Made) ∷ (codes "NDX", it.Made) ∷ (codes "FIELD", it.Made) ∷ (codes "LUPDATE", it.Made)
-    ∷ (codes "RECSIZE", it.Made) ∷ []
-
-abbrev pub of_errors : List NamedThing
-of_errors = (codes "ERROR", it.On) ∷ (codes "MESSAGE", it.On) ∷ (codes "FLOCK", it.Locks) ∷ (codes "LOCK", it.Locks)
-    ∷ (codes "RLOCK", it.Locks) ∷ []
+functions =
+    (codes "TYPE", it.Type) ∷ (codes "TRANSFORM", it.Transform) ∷ (codes "TIME", it.Time) ∷ (codes "SQRT", it.Powers)
+    ∷ (codes "EXP", it.Powers) ∷ (codes "LOG", it.Powers) ∷ (codes "INKEY", it.Keys) ∷ (codes "READKEY", it.Keys)
+    ∷ (codes "FKLABEL", it.Keys) ∷ (codes "FKMAX", it.Keys) ∷ (codes "ROW", it.Cursor) ∷ (codes "COL", it.Cursor)
+    ∷ (codes "PROW", it.Cursor) ∷ (codes "PCOL", it.Cursor) ∷ (codes "FILE", it.Machine)
+    ∷ (codes "DISKSPACE", it.Machine) ∷ (codes "GETENV", it.Machine) ∷ (codes "OS", it.Machine)
+    ∷ (codes "VERSION", it.Machine) ∷ (codes "ISCOLOR", it.Machine) ∷ (codes "ACCESS", it.Access)
+    ∷ (codes "DBF", it.Made) ∷ (codes "NDX", it.Made) ∷ (codes "FIELD", it.Made) ∷ (codes "LUPDATE", it.Made)
+    ∷ (codes "RECSIZE", it.Made) ∷ (codes "ERROR", it.On) ∷ (codes "MESSAGE", it.On) ∷ (codes "FLOCK", it.Locks)
+    ∷ (codes "LOCK", it.Locks) ∷ (codes "RLOCK", it.Locks) ∷ []
 
 -- functions that take no argument here
 abbrev pub answers : List NamedThing
-answers = (codes "EOF", it.OtherArea) ∷ (codes "BOF", it.OtherArea) ∷ (codes "FOUND", it.OtherArea)
+answers =
+    (codes "EOF", it.OtherArea) ∷ (codes "BOF", it.OtherArea) ∷ (codes "FOUND", it.OtherArea)
     ∷ (codes "RECNO", it.OtherArea) ∷ (codes "RECCOUNT", it.OtherArea) ∷ (codes "DELETED", it.OtherArea) ∷ []
 
 -- ---- lines
@@ -123,10 +107,7 @@ or_next (Some found) other = Some found
 
 -- what is left out where a line begins with a word, in every form
 unfoldable pub by_word : List ℕ → Option Thing
-by_word s =
-    or_next (first_named searches s) (or_next (first_named tables s) (or_next (first_named copies s)
-    (or_next (first_named forms s) (or_next (first_named programs s) (or_next (first_named variables s)
-    (first_named prompts s))))))
+by_word s = first_named left_out_commands s
 
 -- what is left out where a line begins with a word
 unfoldable pub by_first : List ℕ → Option Thing
@@ -134,9 +115,7 @@ by_first s = or_next (by_word s) (first_named other_forms s)
 
 -- what a function is left out with, whatever its arguments
 unfoldable pub by_function : List ℕ → Option Thing
-by_function s =
-    or_next (first_named functions s) (or_next (first_named of_keys s) (or_next (first_named of_machines s)
-    (or_next (first_named of_structures s) (first_named of_errors s))))
+by_function s = first_named functions s
 
 -- whether SET has a meaning with this word behind it
 unfoldable pub is_setting : List ℕ → Bool
@@ -146,8 +125,7 @@ is_setting s = is_cut s (codes "ORDER") || is_cut s (codes "FILTER") || is_cut s
 -- what SET asks for with this word behind it
 unfoldable pub by_setting : List ℕ → Option Thing
 by_setting s =
-    if is_setting s then None
-    else or_next (first_named settings s) (or_next (first_named more_settings s) (Some it.OtherSet))
+    if is_setting s then None else or_next (first_named settings s) (Some it.OtherSet)
 
 -- what is left out where a line begins with two words, of commands that are there in other forms
 unfoldable pub by_form : List ℕ → List ℕ → Option Thing

@@ -1,6 +1,5 @@
 -- A run of the machine without tags beside that of the checking machine.
-use Rattle.std.proofs.Common.{◌≡◌, ◌≤◌, ◌∙◌, ◌++◌, ℕ, List, [], ◌∷◌, Bool, true, Option, Some, length, refl, ap, sym, subst, arith}
-use Rattle.shape.specs.declared.whole.Shape.{Shape}
+use Rattle.std.proofs.Common.{◌≡◌, ◌∙◌, ◌++◌, ℕ, List, [], ◌∷◌, Bool, true, Option, refl, ap, sym, subst, arith}
 use Rattle.calendar.specs.declared.day.DayParts.{DayParts}
 use Rattle.work_area.specs.Areas.{StoreState, OpenIndexesList}
 use Rattle.work_area.specs.Shapes.{StoreHasShape}
@@ -9,19 +8,23 @@ use Rattle.run_values.specs.Standing.{IsByKind}
 use Rattle.run_steps.specs.declared.ending.Outcome.{Outcome}
 use Rattle.run_steps.specs.Tables.{IsDecoded}
 use Rattle.run_steps.specs.World.{World, with_lines}
-use Rattle.run_steps.specs.Run.{step_of, after, spent, steps_made, IsNoFault, IsFault, Ran, StandsForWorld, EndsRun}
+use Rattle.run_steps.specs.Machines.{StandsFor}
+use Rattle.run_steps.specs.Run.{StandsForWorld, EndsRun}
 use Rattle.run_steps.specs.Opening.{opening}
+use Rattle.run_steps.specs.declared.machine.Machine.{Machine}
+use Rattle.run_steps.specs.declared.decoding.Decoded.{Decoded}
+use Rattle.run_values.specs.declared.untagged.Untagged.{Untagged}
 use Rattle.run_steps.specs.Safe.{IsSafe}
 use Rattle.run_steps.specs.Shapes.{StoreFits}
 use Rattle.fit_laws.specs.Fits.{IsFitting}
-use Rattle.machine.specs.Twins.{BankState, AgreesWith, Begins, Twin}
+use Rattle.machine.specs.Acceptance.{RunsWell}
+use Rattle.machine.specs.Twins.{BankState, AgreesWith, Begins, Twin, banks_of}
 use Rattle.machine.specs.Headline.{Headline}
 use Rattle.machine.specs.Pauses.{PausesAt, GoesTo}
 use Rattle.run_steps.specs.declared.pausing.Leg.{Leg}
 use Rattle.run_steps.specs.declared.pausing.Leg.TheVariants.{Ended, Waits, Marked}
 use Rattle.run_steps.specs.Pausing.{Pauses, IsLeg, with_more}
 use Rattle.text_lines.specs.Lines.{is_out}
-use Rattle.machine.proofs.Kept.{Keeps, kept}
 
 -- ---- standing for a world
 
@@ -29,7 +32,13 @@ pub stands : (b : BankState) (w : World) → AgreesWith b w → StandsForWorld (
 stands b w a = record {
   place_is = a.place;
   returns_are = a.returns;
-  env_is = λ i. record { store = a.store i; screen = a.screen i; lines = a.lines i; settings = a.settings i; today = a.today i };
+  env_is = λ i. record {
+    store = a.store i;
+    screen = a.screen i;
+    lines = a.lines i;
+    settings = a.settings i;
+    today = a.today i;
+  };
   stand = a.values;
 }
 
@@ -46,42 +55,56 @@ agrees b w s = record {
 }
 
 -- where an opening fits what is known, banks that agree with it can go on
-pub begun : (code : Code) (w : World) (b : BankState) → ((store : StoreState) (lines : List (List ℕ)) (today : Option DayParts) → StoreFits code.declared store → IsFitting code (opening code store lines today)) → Begins code w b → Twin code w b
-begun code w b opens s = record { agrees = s.agrees; fits = subst (IsFitting code) (sym s.opens) (opens s.store s.lines s.today s.declared); decoded = s.decoded }
+pub begun : (code : Code) (w : World) (b : BankState)
+    → ((store : StoreState) (lines : List (List ℕ)) (today : Option DayParts) → StoreFits code.declared store
+    → IsFitting code (opening code store lines today)) → Begins code w b → Twin code w b
+begun code w b opens s = record {
+  agrees = s.agrees;
+  fits = subst (IsFitting code) (sym s.opens) (opens s.store s.lines s.today s.declared);
+  decoded = s.decoded;
+}
 
 -- ---- the run
 
--- what acceptance gives of runs from worlds that fit
-pub record Laws (code : Code) : Type 0 where
-  pub safe : (w : World) → IsFitting code w → IsSafe code w
-  pub fits : (w : World) → IsFitting code w → (n : ℕ) (v : World) → after code w n ≡ Some v → IsFitting code v
-  pub stack : (w : World) → IsFitting code w → length w.values.stack ≤ code.declared.stack_bound
-  pub returns : (w : World) → IsFitting code w → length w.returns ≤ 20
-  pub keeps : (shape : Shape) → Keeps shape
-  pub steps : (w : World) → IsSafe code w → (n : ℕ) (v : World) → after code w n ≡ Some v → IsNoFault (step_of code v)
-  pub end : (w : World) (budget : ℕ) (outcome : Outcome) (v : World) → IsSafe code w → Ran code w budget outcome v → ¬ IsFault outcome.end
-  pub few : (w : World) (n : ℕ) (v : World) → after code w n ≡ Some v → n ≤ spent code w n
-  pub made : (w : World) (budget : ℕ) (outcome : Outcome) (v : World) (ran : Ran code w budget outcome v) → steps_made ran.count outcome.end ≤ budget
+-- a machine that stands for a world of the code's runs, and what the code is decoded to
+pub record SafeFrom {K : Type 0} (code : Code) (w : World) (m : Machine Untagged K) (d : Decoded) : Type 0 where
+  pub stands : StandsFor IsByKind m w
+  pub safe : IsSafe code w
+  pub decoded : IsDecoded code d
+  pub fits : IsFitting code w
 
-unfoldable pub headline : (code : Code) → Laws code → (from : World) (budget : ℕ) (outcome : Outcome) (b : BankState)
+pub safe_from : {K : Type 0} (code : Code) (w : World) (m : Machine Untagged K) (d : Decoded) (b : BankState)
+    → banks_of m d ≡ b → RunsWell code → Twin code w b → SafeFrom code w m d
+safe_from code w m d b view runs twin =
+    let t = subst (Twin code w) (sym view) twin in
+    record {
+      stands = stands (banks_of m d) w t.agrees;
+      safe = runs.safe w t.fits;
+      decoded = t.decoded;
+      fits = t.fits;
+    }
+
+unfoldable pub headline : (code : Code) → RunsWell code
+    → (from : World) (budget : ℕ) (outcome : Outcome) (b : BankState)
     → IsFitting code from → OpenIndexesList b.env.store → IsDecoded code b.decoded
     → EndsRun code from budget outcome (IsByKind b.values) b.place b.returns b.env → Headline code from budget outcome b
-headline code laws from budget outcome b fit lists decoded ends =
-    let there = laws.fits from fit ends.ran.count ends.last ends.ran.reached in
+headline code runs from budget outcome b fit lists decoded ends =
+    let there = runs.fits from fit ends.ran.count ends.last ends.ran.reached in
     let same = agrees b ends.last ends.stands in
-    let safe = laws.safe from fit in
+    let safe = runs.safe from fit in
     record {
       world = ends.last;
       takes_its_steps = ends.ran;
       agrees = same;
-      meets_no_fault = laws.steps from safe;
-      ends_without_fault = laws.end from budget outcome ends.last safe ends.ran;
-      as_known = laws.fits from fit;
-      within_the_stack = λ n v at. laws.stack v (laws.fits from fit n v at);
-      few_calls = λ n v at. laws.returns v (laws.fits from fit n v at);
+      meets_no_fault = runs.steps from safe;
+      ends_without_fault = runs.end from budget outcome ends.last safe ends.ran;
+      as_known = runs.fits from fit;
+      within_the_stack = λ n v at. runs.stack v (runs.fits from fit n v at);
+      few_calls = λ n v at. runs.returns v (runs.fits from fit n v at);
       within_the_budget = ends.ran.within;
-      few_steps = laws.made from budget outcome ends.last ends.ran;
-      keeps_tables_and_indexes = λ shape h. subst (λ s. StoreHasShape shape s) (sym same.store) (kept shape code from ends.ran.count ends.last (laws.keeps shape) ends.ran.reached h);
+      few_steps = runs.made from budget outcome ends.last ends.ran;
+      keeps_tables_and_indexes = λ shape h. subst (λ s. StoreHasShape shape s) (sym same.store)
+          (runs.keeps shape from ends.ran.count ends.last ends.ran.reached h);
       lists_keys = lists;
       as_declared = subst (λ s. StoreFits code.declared s) (sym same.store) there.shape.store;
       goes_on = record { agrees = same; fits = there; decoded = decoded };
@@ -89,40 +112,43 @@ headline code laws from budget outcome b fit lists decoded ends =
 
 -- ---- pauses
 
-unfoldable pub paused : (code : Code) → Laws code → (from : World) (budget steps : ℕ) (b : BankState)
+unfoldable pub paused : (code : Code) → RunsWell code → (from : World) (budget steps : ℕ) (b : BankState)
     → IsFitting code from → OpenIndexesList b.env.store → IsDecoded code b.decoded
     → (p : Pauses code from budget steps (IsByKind b.values) b.place b.returns b.env)
     → PausesAt code from budget steps b
-paused code laws from budget steps b fit lists decoded p =
-    let there = laws.fits from fit p.came.count p.last p.came.reached in
+paused code runs from budget steps b fit lists decoded p =
+    let there = runs.fits from fit p.came.count p.last p.came.reached in
     let same = agrees b p.last p.stands in
-    let safe = laws.safe from fit in
+    let safe = runs.safe from fit in
     record {
       world = p.last;
       takes_its_steps = p.came;
       agrees = same;
-      meets_no_fault = laws.steps from safe;
-      as_known = laws.fits from fit;
-      within_the_stack = λ n v at. laws.stack v (laws.fits from fit n v at);
-      few_calls = λ n v at. laws.returns v (laws.fits from fit n v at);
+      meets_no_fault = runs.steps from safe;
+      as_known = runs.fits from fit;
+      within_the_stack = λ n v at. runs.stack v (runs.fits from fit n v at);
+      few_calls = λ n v at. runs.returns v (runs.fits from fit n v at);
       within_the_budget = p.within;
-      few_steps = (let few = laws.few from p.came.count p.last p.came.reached in omega (arith, few, p.came.steps_are, p.within));
-      keeps_tables_and_indexes = λ shape h. subst (λ s. StoreHasShape shape s) (sym same.store) (kept shape code from p.came.count p.last (laws.keeps shape) p.came.reached h);
+      few_steps = (let few = runs.few from p.came.count p.last p.came.reached in
+          omega (arith, few, p.came.steps_are, p.within));
+      keeps_tables_and_indexes = λ shape h. subst (λ s. StoreHasShape shape s) (sym same.store)
+          (runs.keeps shape from p.came.count p.last p.came.reached h);
       lists_keys = lists;
       as_declared = subst (λ s. StoreFits code.declared s) (sym same.store) there.shape.store;
       goes_on = record { agrees = same; fits = there; decoded = decoded };
     }
 
-pub goes_to : (code : Code) → Laws code → (from : World) (budget : ℕ) (marks : List Bool) (leg : Leg) (b : BankState)
+pub goes_to : (code : Code) → RunsWell code → (from : World) (budget : ℕ) (marks : List Bool) (leg : Leg)
+    (b : BankState)
     → IsFitting code from → OpenIndexesList b.env.store → IsDecoded code b.decoded
     → IsLeg code from budget marks leg (IsByKind b.values) b.place b.returns b.env → GoesTo code from budget marks leg b
 unfolding headline paused
-goes_to code laws from budget marks (Ended outcome) b fit lists decoded g =
-    (headline code laws from budget outcome b fit lists decoded g.0, g.1)
-goes_to code laws from budget marks (Waits steps) b fit lists decoded g =
-    (paused code laws from budget steps b fit lists decoded g.0, g.1)
-goes_to code laws from budget marks (Marked steps) b fit lists decoded g =
-    (paused code laws from budget steps b fit lists decoded g.0, g.1)
+goes_to code runs from budget marks (Ended outcome) b fit lists decoded g =
+    (headline code runs from budget outcome b fit lists decoded g.0, g.1)
+goes_to code runs from budget marks (Waits steps) b fit lists decoded g =
+    (paused code runs from budget steps b fit lists decoded g.0, g.1)
+goes_to code runs from budget marks (Marked steps) b fit lists decoded g =
+    (paused code runs from budget steps b fit lists decoded g.0, g.1)
 
 -- ---- lines
 
@@ -130,7 +156,8 @@ out_lines : (ls more : List (List ℕ)) → is_out ls ≡ true → more ≡ ls +
 out_lines [] more out = refl
 out_lines (l ∷ ls) more out = absurd (cc)
 
-pub more_lines : (code : Code) (w : World) (b : BankState) (lines : List (List ℕ)) → Twin code w b → is_out b.env.lines ≡ true → Twin code (with_more lines w) (record b { env = with_lines lines b.env })
+pub more_lines : (code : Code) (w : World) (b : BankState) (lines : List (List ℕ)) → Twin code w b
+    → is_out b.env.lines ≡ true → Twin code (with_more lines w) (record b { env = with_lines lines b.env })
 more_lines code w b lines t out = record {
   agrees = record {
     place = t.agrees.place;
@@ -144,7 +171,12 @@ more_lines code w b lines t out = record {
   };
   decoded = t.decoded;
   fits = record {
-    shape = record { place = t.fits.shape.place; state = t.fits.shape.state; calls = t.fits.shape.calls; store = t.fits.shape.store };
+    shape = record {
+      place = t.fits.shape.place;
+      state = t.fits.shape.state;
+      calls = t.fits.shape.calls;
+      store = t.fits.shape.store;
+    };
     apart = t.fits.apart;
     fits = t.fits.fits;
     awaits = t.fits.awaits;

@@ -1,3 +1,4 @@
+pub mod Acceptance
 pub mod Headline
 pub mod Pauses
 pub mod Twins

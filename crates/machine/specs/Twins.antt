@@ -6,6 +6,7 @@ use Rattle.code_items.specs.declared.code.Code.{Code}
 use Rattle.run_values.specs.declared.untagged.Untagged.{Untagged}
 use Rattle.run_values.specs.Standing.{IsByKind}
 use Rattle.run_steps.specs.declared.decoding.Decoded.{Decoded}
+use Rattle.run_steps.specs.declared.machine.Machine.{Machine}
 use Rattle.run_steps.specs.Tables.{IsDecoded}
 use Rattle.run_steps.specs.World.{World, EnvState}
 use Rattle.run_steps.specs.Opening.{opening}
@@ -21,9 +22,9 @@ pub record BankState : Type 0 where
   pub env : EnvState
   pub decoded : Decoded
 
-abbrev pub banks_of : ℕ → List ℕ → Untagged → EnvState → Decoded → BankState
-banks_of place returns values env decoded =
-    record { place = place; returns = returns; values = values; env = env; decoded = decoded }
+abbrev pub banks_of : {K : Type 0} → Machine Untagged K → Decoded → BankState
+banks_of m decoded =
+    record { place = m.place; returns = m.returns; values = m.values; env = m.env; decoded = decoded }
 
 -- all is equal but the values. The store is its tables (rows, stale marks, open indexes, orders, pointers, and the
 -- answers of BOF() and FOUND()), what the ten areas hold, the selected area and the limit of records. Each kind's stack

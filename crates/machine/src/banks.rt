@@ -48,7 +48,7 @@ impl<K: KeyList> Model for Banks<K> {
 
     ghost coded = { Prim.hlevel (codes, any_work.the_row.coded) };
 
-    ghost view = { λ b. banks_of b.machine.place b.machine.returns b.machine.values b.machine.env b.decoded };
+    ghost view = { λ b. banks_of b.machine b.decoded };
 }
 
 impl<K: KeyList> Banks<K> {

@@ -1,7 +1,6 @@
 //! Runs without a test.
 
-ghost use Rattle.code_items.specs.Legal.{IsCode};
-ghost use Rattle.code_rules.specs.Rules.{Accepted};
+ghost use Rattle.machine.specs.Acceptance.{RunsWell};
 ghost use Rattle.machine.specs.Headline.{Headline};
 ghost use Rattle.machine.specs.Pauses.{GoesTo};
 ghost use Rattle.machine.specs.Twins.{BankState, Begins, Twin};
@@ -11,7 +10,6 @@ ghost use Rattle.std.specs.Prelude.{◌≡◌, ℕ, List, true};
 ghost use Rattle.text_lines.specs.Lines.{is_out};
 
 use crate::banks::Banks;
-use code_items::Code;
 use fit_laws::laws::{
     fitting_worlds_are_safe, fitting_worlds_keep_the_bounds, openings_fit, runs_keep_fitting,
 };
@@ -22,12 +20,9 @@ use std::alloc::Global;
 use work_area::laws::{stores_keep_their_shape, tables_keep_their_kind};
 use xverify::Verified;
 
-/// Runs an accepted code from banks that agree with a world in which the code may go on.
-fn go_on<K: KeyList>(alloc: Global, code: &Code, banks: &mut Banks<K>, budget: u64) -> Outcome
-    requires legal { IsCode code.now }
-    requires accepted { Accepted code.now }
-    requires twin { (w : World) × Twin code.now w banks.old }
-    ensures { (w : World) → Twin code.now w banks.old → Headline code.now w budget result banks.new }
+/// The runs of an accepted code are safe, and keep what the verifier knows.
+fn accepted_codes_run_well(verified: &Verified)
+    ensures { RunsWell verified.now }
 {
     fitting_worlds_are_safe();
     runs_keep_fitting();
@@ -37,9 +32,7 @@ fn go_on<K: KeyList>(alloc: Global, code: &Code, banks: &mut Banks<K>, budget: u
     runs_cost_their_steps();
     runs_make_few_steps();
     safe_runs_meet_no_fault();
-    let outcome = run_untested(alloc, code, &banks.decoded, &mut banks.machine, budget);
-    banks.machine.store().open_indexes_list_keys();
-    outcome
+    let _code = verified.code();
 }
 
 /// Goes on with a run of accepted code until it ends, within a further budget, from banks that a run left, or any that
@@ -56,7 +49,11 @@ pub fn resume<K: KeyList>(
     requires { (w : World) × Twin verified.now w banks.old }
     ensures { (w : World) → Twin verified.now w banks.old → Headline verified.now w budget result banks.new }
 {
-    go_on(alloc, verified.code(), banks, budget)
+    accepted_codes_run_well(verified);
+    let code = verified.code();
+    let outcome = run_untested(alloc, code, &banks.decoded, &mut banks.machine, budget);
+    banks.machine.store().open_indexes_list_keys();
+    outcome
 }
 
 /// Runs accepted code from its beginning until it ends, within the budget, over any tables of the declared structures,
@@ -71,17 +68,17 @@ pub fn run<K: KeyList>(
     requires { (w : World) × Begins verified.now w banks.old }
     ensures { (w : World) → Begins verified.now w banks.old → Headline verified.now w budget result banks.new }
 {
-    openings_fit();
-    go_on(alloc, verified.code(), banks, budget)
+    banks_go_on(verified);
+    resume(alloc, verified, banks, budget)
 }
 
 /// Goes on as `resume` does, and pauses where the next instruction takes a line of the operator, none is left, and its
 /// cost fits what is left of the budget. Whether the budget is spent is judged first. The run also pauses behind at
 /// least one step, before the first instruction on the screen at a marked place that it comes to. Marks are for such
 /// instructions: it pauses at others too, unless they are passed over within a block. No step that was taken took a
-/// line where none was left. At a pause the banks agree
-/// with the world before the next step, and a run may go on from there. What pieces of a run come to together are the
-/// laws `lines_behind_change_no_step` and `pieces_make_the_whole` of `run_laws`.
+/// line where none was left. At a pause the banks agree with the world before the next step, and a run may go on from
+/// there. What pieces of a run come to together are the laws `lines_behind_change_no_step` and `pieces_make_the_whole`
+/// of `run_laws`.
 pub fn resume_to_line<K: KeyList>(
     alloc: Global,
     verified: &Verified,
@@ -93,34 +90,10 @@ pub fn resume_to_line<K: KeyList>(
     ensures { (w : World) → Twin verified.now w banks.old
         → GoesTo verified.now w budget marks.now result banks.new }
 {
-    go_to_line(alloc, verified.code(), marks, banks, budget)
-}
-
-/// Runs an accepted code from banks that agree with a world in which the code may go on, as far as `resume_to_line`
-/// says.
-fn go_to_line<K: KeyList>(
-    alloc: Global,
-    code: &Code,
-    marks: &[bool],
-    banks: &mut Banks<K>,
-    budget: u64,
-) -> Leg
-    requires legal { IsCode code.now }
-    requires accepted { Accepted code.now }
-    requires twin { (w : World) × Twin code.now w banks.old }
-    ensures { (w : World) → Twin code.now w banks.old → GoesTo code.now w budget marks.now result banks.new }
-{
-    fitting_worlds_are_safe();
-    runs_keep_fitting();
-    fitting_worlds_keep_the_bounds();
-    stores_keep_their_shape();
-    tables_keep_their_kind();
-    runs_cost_their_steps();
-    runs_make_few_steps();
-    safe_runs_meet_no_fault();
+    accepted_codes_run_well(verified);
     let leg = run_to_line(
         alloc,
-        code,
+        verified.code(),
         &banks.decoded,
         marks,
         &mut banks.machine,

@@ -9,8 +9,8 @@ use std::time::Duration;
 pub const FIRST_PART: u64 = 1_000_000;
 
 /// What a part is to cost at most, behind one that was to cost `part` at most and took this long. It is twice as much
-/// where that one took less than a quarter of a second, half as much where it took more than a second, and else as
-/// much.
+/// where that one took less than a quarter of a second, half as much where it took more than a second, and else the
+/// same.
 pub fn next_part(part: u64, took: Duration) -> u64
     requires { 1 ≤ part }
     ensures some { 1 ≤ result }

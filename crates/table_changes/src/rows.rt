@@ -1,5 +1,4 @@
-// Rows of tables as their bytes.
-#![tactic(auto)]
+//! Rows of tables as their bytes.
 
 ghost use Rattle.std.specs.Prelude.{◌≡◌, ◌<◌, ◌++◌, length, map, IfOk, OnOk};
 ghost use Rattle.std.specs.List.{concat};

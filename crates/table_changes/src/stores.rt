@@ -1,5 +1,4 @@
-// Stores before and after.
-#![tactic(auto)]
+//! Stores before and after.
 
 ghost use Rattle.std.specs.Prelude.{◌≡◌, ◌<◌, ◌≤◌, ◌&&◌, not, true, length, map, slice_index_or, [], IfOk};
 ghost use Rattle.row_changes.specs.Changes.{AreCounted};

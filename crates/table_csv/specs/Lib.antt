@@ -1,3 +1,2 @@
 pub mod Cells
-pub mod Reports
 pub mod Written

@@ -1,17 +1,18 @@
 -- What a load finds after a save.
-use Rattle.std.proofs.Common.{◌≡◌, ◌<◌, ℕ, true, List, Some, length, get_or, sym, ap, ◌∙◌, subst, arith}
+use Rattle.std.proofs.Common.{◌≡◌, ◌<◌, ℕ, true, List, Some, length, get_or, sym, ◌∙◌, subst, arith}
 use Rattle.std.specs.Prelude.{slice_get}
 use Rattle.std.proofs.lemmas.Option.{slice_get_within, get_or_from_slice_get}
 use Rattle.dbf_file.specs.declared.stamp.Stamp.{Stamp}
 use Rattle.dbf_file.specs.Rows.{Row}
 use Rattle.dbf_file.specs.Tables.{TableState, DbfText}
 use Rattle.file_access.specs.Holding.{Holds, HoldsOneThing}
+use Rattle.key_lists.specs.Pairs.{Pair}
 use Rattle.shape.specs.declared.tables.TableShape.{TableShape}
 use Rattle.shape.specs.declared.whole.Shape.{Shape}
 use Rattle.shape.specs.Whole.{is_shape}
 use Rattle.open_table.specs.Open.{OpenState}
 use Rattle.work_area.specs.Areas.{StoreState, table_at}
-use Rattle.work_area.specs.Making.{AreMarks, lists_just}
+use Rattle.work_area.specs.Making.{AreMarks, IsNewTable, lists_just}
 use Rattle.table_files.specs.Loading.{IsTableOf, Loaded}
 use Rattle.table_files.specs.Names.{table_file}
 use Rattle.table_files.specs.Saving.{AreSaved, FindsSaved}
@@ -21,27 +22,26 @@ use Rattle.table_files.proofs.ShapeLemmas.{files_differ}
 use Rattle.table_files.proofs.WriteLemmas.{table_written}
 
 -- a loaded table, as its file holds it
-record IsFound (holds : Holds) (limit : ℕ) (s : TableShape) (l : OpenState) : Type 0 where
+record IsFound (holds : Holds) (shape : Shape) (limit : ℕ) (lists : ℕ → List Pair → Type 0) (t : ℕ) (s : TableShape)
+    (l : OpenState) : Type 0 where
   pub table : TableState
   pub of : IsTableOf holds limit s table
-  pub structure : l.table.structure ≡ table.structure
-  pub rows : l.table.rows ≡ table.rows
+  pub new : IsNewTable lists shape.indexes t s table l
 
 found_at : (holds : Holds) (shape : Shape) (limit : ℕ) (loaded : StoreState) (t : ℕ) (s : TableShape) (l : OpenState)
-    → Loaded holds shape limit loaded → slice_get shape.tables t ≡ Some s → table_at loaded t ≡ Some l
-    → IsFound holds limit s l
+    (h : Loaded holds shape limit loaded) → slice_get shape.tables t ≡ Some s → table_at loaded t ≡ Some l
+    → IsFound holds shape limit (lists_just (λ k. k.pairs) h.lists) t s l
 found_at holds shape limit loaded t s l h here there =
     let d : TableState = record { structure = l.table.structure; rows = l.table.rows; spare = 0 } in
     let count : length h.tables ≡ length shape.tables =
     zip_count (IsTableOf holds limit) shape.tables h.tables h.read in
     let low : t < length shape.tables = slice_get_within shape.tables t s here in
-    let new = h.made.tables.each t d l s (omega (arith, count, low)) here in
     let same : get_or loaded.tables t l ≡ l = get_or_from_slice_get loaded.tables t l l there in
     record {
       table = get_or h.tables t d;
       of = zip_at (IsTableOf holds limit) shape.tables h.tables h.read t s d here;
-      structure = ap (λ (o : OpenState). o.table.structure) (sym same) ∙ new.structure;
-      rows = ap (λ (o : OpenState). o.table.rows) (sym same) ∙ new.rows;
+      new = subst (IsNewTable (lists_just (λ k. k.pairs) h.lists) shape.indexes t s (get_or h.tables t d)) same
+          (h.made.tables.each t d l s (omega (arith, count, low)) here);
     }
 
 -- the marks of its indexes
@@ -50,17 +50,9 @@ pub marks_at : (holds : Holds) (shape : Shape) (limit : ℕ) (loaded : StoreStat
     → table_at loaded t ≡ Some l
     → AreMarks (lists_just (λ k. k.pairs) h.lists) s.fields l.table.rows t 0 shape.indexes l.table.marks
 marks_at holds shape limit loaded t s l h here there =
-    let d : TableState = record { structure = l.table.structure; rows = l.table.rows; spare = 0 } in
-    let count : length h.tables ≡ length shape.tables =
-    zip_count (IsTableOf holds limit) shape.tables h.tables h.read in
-    let low : t < length shape.tables = slice_get_within shape.tables t s here in
-    let new = h.made.tables.each t d l s (omega (arith, count, low)) here in
-    let same : get_or loaded.tables t l ≡ l = get_or_from_slice_get loaded.tables t l l there in
-    let rows : (get_or h.tables t d).rows ≡ l.table.rows = sym new.rows ∙ ap (λ (o : OpenState). o.table.rows) same in
+    let f = found_at holds shape limit loaded t s l h here there in
     subst (λ (rs : List Row). AreMarks (lists_just (λ k. k.pairs) h.lists) s.fields rs t 0 shape.indexes l.table.marks)
-    rows
-    (subst (λ (o : OpenState). AreMarks (lists_just (λ k. k.pairs) h.lists) s.fields (get_or h.tables t d).rows t 0
-    shape.indexes o.table.marks) same new.marks)
+    (sym f.new.rows) f.new.marks
 
 pub finds_saved : (before after : Holds) (shape : Shape) (store loaded : StoreState) (stamp : Stamp) (k limit : ℕ)
     → HoldsOneThing after → is_shape shape ≡ true
@@ -77,7 +69,7 @@ finds_saved before after shape store loaded stamp k limit one legal h g = record
       subst (λ (b : List ℕ). DbfText o.table.structure o.table.rows stamp b) same (w.1.reads o within stands) in
       let only = one_table f.table.structure o.table.structure f.table.rows o.table.rows f.of.inside.stamp stamp
       f.of.bytes f.of.inside.text text in
-      (f.structure ∙ only.0, f.rows ∙ only.1);
+      (f.new.structure ∙ only.0, f.new.rows ∙ only.1);
   kept = λ t s l low here there.
       let f = found_at after shape limit loaded t s l g here there in
       let kept = h.others (table_file s)
@@ -85,7 +77,7 @@ finds_saved before after shape store loaded stamp k limit one legal h g = record
       (table_place shape t s here))) (Some f.of.bytes) in (
         f.table,
         record { bytes = f.of.bytes; held = kept.1 f.of.held; short = f.of.short; inside = f.of.inside },
-        f.structure,
-        f.rows,
+        f.new.structure,
+        f.new.rows,
       );
 }

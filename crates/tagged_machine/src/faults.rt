@@ -4,7 +4,7 @@ ghost use Rattle.std.specs.Prelude.{◌≡◌, ◌<◌};
 ghost use Rattle.code_items.specs.Legal.{IsCode, places_of};
 ghost use Rattle.run_steps.specs.Faults.{fault_of};
 ghost use Rattle.run_steps.specs.World.{desk_of};
-ghost use Rattle.tagged_machine.specs.Seen.{world_of, state_seen, fault_seen};
+ghost use Rattle.tagged_machine.specs.Seen.{world_seen, fault_seen};
 
 use crate::clear::is_clear;
 use crate::operands::{bad_field, is_high, is_short, loads_free, wrong_kind};
@@ -30,9 +30,7 @@ fn first_fault<K: KeyList>(
     requires legal { IsCode code.now }
     requires places { places ≡ places_of code.now.procedures }
     requires place { machine.now.place < 65536 }
-    ensures { result ≡ fault_seen code.now
-        (world_of machine.now.place machine.now.returns machine.now.values machine.now.env)
-        (state_seen desk.now machine.now.values) instr }
+    ensures { result ≡ fault_seen code.now machine.now desk.now instr }
 {
     let values = &machine.values;
     if wrong_kind(code, desk, values, instr) {
@@ -45,7 +43,7 @@ fn first_fault<K: KeyList>(
         Some(FaultKind::EmptyStack)
     } else if is_high(code, values, instr) {
         Some(FaultKind::StackOver)
-    } else if bad_jump(code, places, machine.place, &machine.returns, values, instr) {
+    } else if bad_jump(code, places, machine, instr) {
         Some(FaultKind::BadJump)
     } else if order_fails(&code.declared, desk, instr) {
         Some(FaultKind::NoOrder)
@@ -77,8 +75,7 @@ pub fn fault<K: KeyList>(
     requires places { places ≡ places_of code.now.procedures }
     requires place { machine.now.place < 65536 }
     requires shown { desk.now ≡ desk_of machine.now.env.store }
-    ensures { result ≡ fault_of code.now
-        (world_of machine.now.place machine.now.returns machine.now.values machine.now.env) instr }
+    ensures { result ≡ fault_of code.now (world_seen machine.now) instr }
 {
     if is_clear(code, places, machine, instr) {
         return None;

@@ -1,10 +1,12 @@
 //! Tests of an instruction by the kinds that values have and by what its operands name.
 
-ghost use Rattle.std.specs.Prelude.{◌≡◌, List, map};
+ghost use Rattle.std.specs.Prelude.{◌≡◌, List, length, map, nat_lt};
+ghost use Rattle.xvalue.specs.Kinds.{kind_of};
 ghost use Rattle.xvalue.specs.declared.kind.Kind.{Kind as AnyKind};
 ghost use Rattle.code_items.specs.declared.desk.Desk.{Desk as AnyDesk};
-ghost use Rattle.code_rules.specs.Rules.{loads_other as loads_other_of, loads_free as loads_free_of};
-ghost use Rattle.run_steps.specs.Faults.{wrong_kind as wrong_kind_of, empty_stack, stack_over, area_lists_other};
+ghost use Rattle.code_rules.specs.Rules.{height_after, loads_other as loads_other_of, loads_free as loads_free_of};
+ghost use Rattle.code_rules.specs.Signature.{signature};
+ghost use Rattle.run_steps.specs.Faults.{wrong_kind as wrong_kind_of, area_lists_other};
 ghost use Rattle.run_steps.specs.Faults.{lists_other as lists_other_of, bad_field as bad_field_of, area_filters_other};
 ghost use Rattle.run_steps.specs.Faults.{filters_other as filters_other_of};
 ghost use Rattle.run_steps.specs.World.{kind_held};
@@ -52,7 +54,7 @@ pub fn wrong_kind(code: &Code, desk: &Desk, values: &Tagged, instr: Instr) -> bo
 /// Whether there are fewer values than it takes.
 #[tactic(auto, using(crate::proofs::Held::same_height))]
 pub fn is_short(values: &Tagged, instr: Instr) -> bool
-    ensures { (desk : AnyDesk) → result ≡ empty_stack (state_seen desk values.now) instr }
+    ensures { result ≡ nat_lt (length (map kind_of values.now.stack)) (signature instr).taken }
 {
     is_under(values.height(), instr)
 }
@@ -60,7 +62,8 @@ pub fn is_short(values: &Tagged, instr: Instr) -> bool
 /// Whether there are more values than the code's bound afterwards.
 #[tactic(auto, using(crate::proofs::Held::same_height))]
 pub fn is_high(code: &Code, values: &Tagged, instr: Instr) -> bool
-    ensures { (desk : AnyDesk) → result ≡ stack_over code.now (state_seen desk values.now) instr }
+    ensures { result
+        ≡ nat_lt code.now.declared.stack_bound (height_after (length (map kind_of values.now.stack)) instr) }
 {
     is_over(&code.declared, values.height(), instr)
 }

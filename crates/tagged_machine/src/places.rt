@@ -7,15 +7,15 @@ ghost use Rattle.code_items.specs.Legal.{IsCode, places_of};
 ghost use Rattle.run_steps.specs.Control.{is_false as is_false_of, flow_place as flow_place_of, place_after};
 ghost use Rattle.run_steps.specs.Effects.{top};
 ghost use Rattle.run_steps.specs.Faults.{bad_jump as bad_jump_of};
-ghost use Rattle.run_steps.specs.World.{EnvState};
-ghost use Rattle.tagged_machine.specs.Seen.{world_of};
+ghost use Rattle.tagged_machine.specs.Seen.{world_seen};
 
 use code_items::{Code, FlowInstr, Instr};
 use code_rules::operands::calls_none;
 use code_rules::signature::called;
-use run_steps::ReturnPlaces;
+use key_lists::KeyList;
 use run_steps::layout::entry_place;
 use run_steps::running::finishes;
+use run_steps::{Machine, ReturnPlaces};
 use run_values::{Tagged, Values};
 use xvalue::Kind;
 
@@ -30,67 +30,49 @@ fn is_false(values: &Tagged) -> bool
 }
 
 /// Where an instruction on the flow of control goes next.
-fn flow_place(
-    code: &Code,
-    instr: FlowInstr,
-    place: usize,
-    returns: &ReturnPlaces,
-    values: &Tagged,
-) -> usize
+fn flow_place<K: KeyList>(code: &Code, machine: &Machine<Tagged, K>, instr: FlowInstr) -> usize
     requires legal { IsCode code.now }
-    requires place { place < 65536 }
-    ensures { result ≡ flow_place_of code.now instr place returns.now values.now }
+    requires place { machine.now.place < 65536 }
+    ensures { result ≡ flow_place_of code.now instr machine.now.place machine.now.returns machine.now.values }
 {
+    let place = machine.place;
     match instr {
         FlowInstr::Jump(target) => target as usize,
-        FlowInstr::JumpFalse(target) => {
-            if is_false(values) {
-                target as usize
-            } else {
-                place + 1
-            }
-        }
+        FlowInstr::JumpFalse(target) if is_false(&machine.values) => target as usize,
+        FlowInstr::JumpFalse(_) => place + 1,
         FlowInstr::Call(number) => entry_place(code, number),
-        FlowInstr::Return => returns.last_or(place),
+        FlowInstr::Return => machine.returns.last_or(place),
         FlowInstr::End => place,
     }
 }
 
 /// Where an instruction goes next.
-fn next_place(
-    code: &Code,
-    instr: Instr,
-    place: usize,
-    returns: &ReturnPlaces,
-    values: &Tagged,
-) -> usize
+fn next_place<K: KeyList>(code: &Code, machine: &Machine<Tagged, K>, instr: Instr) -> usize
     requires legal { IsCode code.now }
-    requires place { place < 65536 }
-    ensures { result ≡ place_after code.now instr place returns.now values.now }
+    requires place { machine.now.place < 65536 }
+    ensures { result ≡ place_after code.now instr machine.now.place machine.now.returns machine.now.values }
 {
     match instr {
-        Instr::Flow(instr) => flow_place(code, instr, place, returns, values),
-        _ => place + 1,
+        Instr::Flow(instr) => flow_place(code, machine, instr),
+        _ => machine.place + 1,
     }
 }
 
 /// Whether it goes on at a place that stands in no procedure. The procedures' blocks have so many places.
-pub fn bad_jump(
+pub fn bad_jump<K: KeyList>(
     code: &Code,
     places: usize,
-    place: usize,
-    returns: &ReturnPlaces,
-    values: &Tagged,
+    machine: &Machine<Tagged, K>,
     instr: Instr,
 ) -> bool
     requires legal { IsCode code.now }
     requires places { places ≡ places_of code.now.procedures }
-    requires place { place < 65536 }
-    ensures { (env : EnvState) → result ≡ bad_jump_of code.now (world_of place returns.now values.now env) instr }
+    requires place { machine.now.place < 65536 }
+    ensures { result ≡ bad_jump_of code.now (world_seen machine.now) instr }
 {
-    !finishes(returns, instr)
+    !finishes(&machine.returns, instr)
         && !calls_none(code, instr)
-        && places <= next_place(code, instr, place, returns, values)
+        && places <= next_place(code, machine, instr)
 }
 
 /// Whether it calls where 20 calls haven't returned.

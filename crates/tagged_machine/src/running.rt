@@ -6,7 +6,7 @@ ghost use Rattle.code_rules.specs.Rules.{Accepted};
 ghost use Rattle.fit_laws.specs.Fits.{IsFitting, LevelsFall, procedure_at};
 ghost use Rattle.run_steps.specs.Run.{Ran, IsFault, steps_made};
 ghost use Rattle.run_steps.specs.Shapes.{HasShape};
-ghost use Rattle.tagged_machine.specs.Seen.{world_of};
+ghost use Rattle.tagged_machine.specs.Seen.{world_seen};
 ghost use Rattle.work_area.specs.Areas.{AreApart, OpenIndexesList};
 
 use crate::faults::fault;
@@ -35,13 +35,10 @@ fn run_on<K: KeyList>(
     budget: u64,
 ) -> Outcome
     requires legal { IsCode code.now }
-    requires shape { HasShape code.now
-        (world_of machine.old.place machine.old.returns machine.old.values machine.old.env) }
+    requires shape { HasShape code.now (world_seen machine.old) }
     requires apart { AreApart machine.old.env.store.areas }
-    ensures ran { Ran code.now (world_of machine.old.place machine.old.returns machine.old.values machine.old.env)
-        budget result (world_of machine.new.place machine.new.returns machine.new.values machine.new.env) }
-    ensures shape { HasShape code.now (world_of machine.new.place machine.new.returns machine.new.values
-        machine.new.env) }
+    ensures ran { Ran code.now (world_seen machine.old) budget result (world_seen machine.new) }
+    ensures shape { HasShape code.now (world_seen machine.new) }
     ensures apart { AreApart machine.new.env.store.areas }
 {
     legal_codes();
@@ -56,17 +53,13 @@ fn run_on<K: KeyList>(
         let instr = *code.instructions.get(machine.place);
         let desk = scratch.areas.desk();
         if let Some(kind) = fault(code, places, machine, desk, &mut scratch.block, instr) {
-            return Outcome {
-                end: End::Fault(kind, machine.place),
-                steps,
-            };
+            let end = End::Fault(kind, machine.place);
+            return Outcome { end, steps };
         }
         if finishes(&machine.returns, instr) {
             if steps == budget {
-                return Outcome {
-                    end: End::Spent,
-                    steps,
-                };
+                let end = End::Spent;
+                return Outcome { end, steps };
             }
             return Outcome {
                 end: End::Finished,
@@ -79,10 +72,8 @@ fn run_on<K: KeyList>(
                 scratch.areas.follow(machine.env.store(), instr);
             }
             Err(stop) => {
-                return Outcome {
-                    end: stop.end(),
-                    steps,
-                };
+                let end = stop.end();
+                return Outcome { end, steps };
             }
         }
     }

@@ -28,11 +28,11 @@ pub struct World<K: KeyList> {
 
 impl<K: KeyList> Model for World<K> {
     ghost use Rattle.run_steps.specs.World.{World as AnyWorld};
-    ghost use Rattle.tagged_machine.specs.Seen.{world_of};
+    ghost use Rattle.tagged_machine.specs.Seen.{world_seen};
 
     ghost Value = { AnyWorld };
 
-    ghost view = { λ w. world_of w.machine.place w.machine.returns w.machine.values w.machine.env };
+    ghost view = { λ w. world_seen w.machine };
 }
 
 impl<K: KeyList> World<K> {

@@ -13,7 +13,8 @@ loop-next-init c =
     record {
       pairs = c.first-next.ensures.pairs;
       meets = meets;
-      lines = ap (λ ps. c.args.out.now.items ++ flat_map pair_line ps) (begins c.args.tree.now.pairs c.first-next.result meets c.first-next.ensures.found);
+      lines = ap (λ ps. c.args.out.now.items ++ flat_map pair_line ps)
+          (begins c.args.tree.now.pairs c.first-next.result meets c.first-next.ensures.found);
     }
 
 pub loop-next-preserved : goal.loop-next-preserved
@@ -21,12 +22,15 @@ loop-next-preserved c =
     let pairs = c.args.tree.now.pairs in
     let p = c.in-Some.pair in
     let meets = c.loop-next.invariant.meets in
-    let found = found_of c.key.result.now c.number.result p c.loop-next.tree.pairs pairs c.after-next.result c.key.ensures.value c.number.ensures c.loop-next.invariant.pairs c.after-next.ensures.found in
-    let whole = subst (λ next. c.loop-next.out.items ++ flat_map pair_line (left next pairs) ≡ c.args.out.now.items ++ flat_map pair_line pairs) c.in-Some.is c.loop-next.invariant.lines in
+    let found = found_of c.key.result.now c.number.result p c.loop-next.tree.pairs pairs c.after-next.result
+    c.key.ensures.value c.number.ensures c.loop-next.invariant.pairs c.after-next.ensures.found in
+    let whole = subst (λ next. c.loop-next.out.items ++ flat_map pair_line (left next pairs)
+    ≡ c.args.out.now.items ++ flat_map pair_line pairs) c.in-Some.is c.loop-next.invariant.lines in
     record {
       pairs = ap (λ t. t.pairs) c.after-next.ensures.same ∙ c.loop-next.invariant.pairs;
       meets = meets;
       lines =
           ap (λ ps. c.put_pair.new.out.items ++ flat_map pair_line ps) (goes_on pairs p c.after-next.result meets found)
-          ∙ written c.loop-next.out.items (c.args.out.now.items ++ flat_map pair_line pairs) (pair_line p) p (above is_before p pairs) refl whole c.put_pair.new.out.items c.in_ok-put_pair.ensures;
+          ∙ written c.loop-next.out.items (c.args.out.now.items ++ flat_map pair_line pairs) (pair_line p) p
+          (above is_before p pairs) refl whole c.put_pair.new.out.items c.in_ok-put_pair.ensures;
     }

@@ -9,7 +9,8 @@ abbrev pub invariant-loop-next : goal.invariant-loop-next
 invariant-loop-next l = record {
   pairs : l.tree.pairs ≡ l.fn.tree.pairs;
   meets : MeetsEach l.fn.tree.pairs;
-  lines : l.out.items ++ flat_map pair_line (left l.next l.fn.tree.pairs) ≡ l.fn.out.items ++ flat_map pair_line l.fn.tree.pairs;
+  lines : l.out.items ++ flat_map pair_line (left l.next l.fn.tree.pairs) ≡ l.fn.out.items
+      ++ flat_map pair_line l.fn.tree.pairs;
 }
 
 abbrev pub decreases-loop-next : goal.decreases-loop-next

@@ -1,11 +1,40 @@
 use Rattle.std.proofs.Common.{sym, subst}
-use Rattle.machine.specs.Twins.{Twin}
-use Rattle.machine.specs.Pauses.{GoesTo}
+use Rattle.run_steps.specs.Machines.{LegMachine}
+use Rattle.run_steps.specs.Safe.{IsSafe}
+use Rattle.run_steps.specs.Tables.{IsDecoded}
+use Rattle.run_values.specs.Standing.{IsByKind}
+use Rattle.work_area.specs.Areas.{OpenIndexesList}
+use Rattle.machine.specs.Twins.{banks_of}
+use Rattle.machine.proofs.Runs.{safe_from, goes_to}
 use Rattle.machine.proofs.running.resume_to_line.Goals as goal
 
-pub go_to_line-requires-clause-twin : goal.go_to_line-requires-clause-twin
-go_to_line-requires-clause-twin g c = (c.requires.0, subst (λ k. Twin k c.requires.0 c.args.banks.now) (sym c.code.ensures.same) c.requires.1)
+pub run_to_line-leg-requires-clause-safe : goal.run_to_line-leg-requires-clause-safe
+run_to_line-leg-requires-clause-safe g c =
+    let w = c.requires.0 in
+    let b = c.banks.inside in
+    let runs = c.accepted_codes_run_well.ensures in
+    let s = safe_from c.args.verified.now w b.machine b.decoded _ c.banks.view_is runs c.requires.1 in
+    (w, (s.stands, subst (λ k. IsSafe k w) (sym c.code.ensures.same) s.safe))
+
+pub run_to_line-leg-requires-clause-decoded : goal.run_to_line-leg-requires-clause-decoded
+run_to_line-leg-requires-clause-decoded g c =
+    let w = c.requires.0 in
+    let b = c.banks.inside in
+    let runs = c.accepted_codes_run_well.ensures in
+    let s = safe_from c.args.verified.now w b.machine b.decoded _ c.banks.view_is runs c.requires.1 in
+    subst (λ k. IsDecoded k c.banks.inside.decoded) (sym c.code.ensures.same) s.decoded
 
 pub returns : goal.returns
-returns g c = λ w t. subst (λ k. GoesTo k w c.args.budget c.args.marks.now c.go_to_line.result c.go_to_line.new.banks) c.code.ensures.same
-    (c.go_to_line.ensures w (subst (λ k. Twin k w c.args.banks.now) (sym c.code.ensures.same) t))
+returns g c = λ w twin.
+    let same = c.code.ensures.same in
+    let runs = c.accepted_codes_run_well.ensures in
+    let n = c.run_to_line-leg.new in
+    let b = c.banks.inside in
+    let s = safe_from c.args.verified.now w b.machine b.decoded _ c.banks.view_is runs twin in
+    let safe = subst (λ k. IsSafe k w) (sym same) s.safe in
+    goes_to c.args.verified.now runs w c.args.budget c.args.marks.now c.run_to_line-leg.result
+    (banks_of n.machine b.decoded) s.fits
+    (subst OpenIndexesList c.store.ensures c.open_indexes_list_keys.ensures)
+    s.decoded
+    (subst (λ k. LegMachine k w c.args.budget c.args.marks.now c.run_to_line-leg.result IsByKind n.machine) same
+    (c.run_to_line-leg.ensures w s.stands safe))

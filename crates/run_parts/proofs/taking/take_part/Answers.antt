@@ -17,7 +17,8 @@ loop-outcome-preserved g c =
     record {
       ran = λ w t.
           let r = c.loop-outcome.invariant.ran w t in
-          once_more _ w _ _ _ _ _ _ c.parts_make_the_whole.ensures r spent none (of_headline _ r.world _ _ _ (c.resume-outcome-in-loop-outcome.ensures r.world r.goes_on));
+          once_more _ w _ _ _ _ _ _ c.parts_make_the_whole.ensures r spent none
+          (of_headline _ r.world _ _ _ (c.resume-outcome-in-loop-outcome.ensures r.world r.goes_on));
       within = c.wider-budget.ensures.within;
       paid =
           let r = c.loop-outcome.invariant.ran c.requires.twin.0 c.requires.twin.1 in

@@ -2,27 +2,28 @@ use Rattle.std.proofs.Common.{sym, subst}
 use Rattle.code_items.specs.declared.code.Code.{Code}
 use Rattle.code_rules.specs.Rules.{Accepted}
 use Rattle.fit_laws.specs.Fits.{IsFitting, LevelsFall, procedure_at}
-use Rattle.tagged_machine.specs.Seen.{world_of}
+use Rattle.tagged_machine.specs.Seen.{world_seen}
 use Rattle.tagged_machine.proofs.running.run_checked.Goals as goal
 
 pub returns-clause-safe : goal.returns-clause-safe
 returns-clause-safe g c = λ accepted fits.
     let code = c.code.result.now in
     let lent = sym c.code.ensures.same in
-    let m = c.world.inside.machine in
-    let old = world_of m.place m.returns m.values m.env in
-    let there = subst (λ (code : Code). IsFitting code old) lent (subst (IsFitting c.args.code.now) (sym c.world.view_is) fits) in
-    c.safe_runs_meet_no_fault.ensures.end code old c.args.budget c.run_on-outcome.result _ (c.fitting_worlds_are_safe.ensures code c.code.ensures.legal (subst Accepted lent accepted) old there) c.run_on-outcome.ensures.ran
+    let old = world_seen c.world.inside.machine in
+    let there = subst (λ (code : Code). IsFitting code old) lent
+    (subst (IsFitting c.args.code.now) (sym c.world.view_is) fits) in
+    c.safe_runs_meet_no_fault.ensures.end code old c.args.budget c.run_on-outcome.result _
+    (c.fitting_worlds_are_safe.ensures code c.code.ensures.legal (subst Accepted lent accepted) old there)
+    c.run_on-outcome.ensures.ran
 
 pub returns-clause-levels : goal.returns-clause-levels
 returns-clause-levels g c = λ accepted fits.
     let code = c.code.result.now in
     let lent = sym c.code.ensures.same in
-    let m = c.world.inside.machine in
-    let old = world_of m.place m.returns m.values m.env in
-    let there = subst (λ (code : Code). IsFitting code old) lent (subst (IsFitting c.args.code.now) (sym c.world.view_is) fits) in
-    let n = c.run_on-outcome.new.machine in
-    let new = world_of n.place n.returns n.values n.env in
+    let old = world_seen c.world.inside.machine in
+    let there = subst (λ (code : Code). IsFitting code old) lent
+    (subst (IsFitting c.args.code.now) (sym c.world.view_is) fits) in
+    let new = world_seen c.run_on-outcome.new.machine in
     let ran = c.run_on-outcome.ensures.ran in
     subst (λ (code : Code). LevelsFall code (procedure_at code new.place) new.returns) c.code.ensures.same
     (c.levels_fall.ensures code c.code.ensures.legal (subst Accepted lent accepted) old there ran.count new ran.reached)

@@ -1,12 +1,12 @@
 use Rattle.std.proofs.Common.{◌≡◌, ◌-◌, ◌≤◌}
 use Rattle.run_steps.specs.World.{desk_of}
 use Rattle.tagged_machine.specs.Reached.{Comes}
-use Rattle.tagged_machine.specs.Seen.{world_of}
+use Rattle.tagged_machine.specs.Seen.{world_seen}
 use Rattle.tagged_machine.proofs.running.run_on.Given as goal
 
 abbrev pub invariant-loop-kind : goal.invariant-loop-kind
 invariant-loop-kind g l = record {
-  comes : Comes l.fn.code (world_of l.fn.machine.place l.fn.machine.returns l.fn.machine.values l.fn.machine.env) l.steps (world_of l.machine.place l.machine.returns l.machine.values l.machine.env);
+  comes : Comes l.fn.code (world_seen l.fn.machine) l.steps (world_seen l.machine);
   within : l.steps ≤ l.budget;
   shown : l.scratch.areas ≡ desk_of l.machine.env.store;
 }

@@ -8,4 +8,5 @@ pub loop-place-preserved : goal.loop-place-preserved
 loop-place-preserved c =
     let instrs = c.as_slice-instrs.result.now in
     subst (All (IsReadOfCode instrs)) (sym c.in_ok-push.ensures.items)
-    (All-push (IsReadOfCode instrs) c.loop-place.reads.items c.in_ok-read.read c.loop-place.invariant c.in_ok-read.ensures)
+    (All-push (IsReadOfCode instrs) c.loop-place.reads.items c.in_ok-read.read c.loop-place.invariant
+    c.in_ok-read.ensures)

@@ -8,4 +8,5 @@ pub loop-place-preserved : goal.loop-place-preserved
 loop-place-preserved c =
     let here : spec.takes_at c.args.code.now c.loop-place.place ≡ true = search rules in
     subst (All (λ place. spec.takes_at c.args.code.now place ≡ true)) (sym c.in_ok-push.ensures.items)
-    (All-push (λ place. spec.takes_at c.args.code.now place ≡ true) c.loop-place.takes.items c.loop-place.place c.loop-place.invariant here)
+    (All-push (λ place. spec.takes_at c.args.code.now place ≡ true) c.loop-place.takes.items c.loop-place.place
+    c.loop-place.invariant here)

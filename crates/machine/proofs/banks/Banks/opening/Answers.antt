@@ -11,14 +11,15 @@ use Rattle.machine.proofs.banks.Banks.opening.Goals as goal
 pub returns : goal.returns
 returns g c =
     let code = c.args.verified.now in
-    let m = c.in_ok-opening.field-0 in
-    let free = subst (λ n. IsByKind c.in_ok-values.values (record { slots = replicate n None; stack = [] })) (c.from.ensures ∙ ap (λ (k : Code). k.declared.slots) c.code.ensures.same) c.in_ok-values.ensures in
+    let free = subst (λ n. IsByKind c.in_ok-values.values (record { slots = replicate n None; stack = [] }))
+    (c.from.ensures ∙ ap (λ (k : Code). k.declared.slots) c.code.ensures.same) c.in_ok-values.ensures in
     record {
       store = c.args.store;
       lines = c.args.lines;
       today = c.args.today;
       declared = c.requires;
       opens = refl;
-      agrees = agrees (banks_of m.place m.returns m.values m.env c.of.result) (opening code c.args.store c.args.lines c.args.today) (c.in_ok-opening.ensures code free);
+      agrees = agrees (banks_of c.in_ok-opening.field-0 c.of.result)
+          (opening code c.args.store c.args.lines c.args.today) (c.in_ok-opening.ensures code free);
       decoded = subst (λ k. IsDecoded k c.of.result) c.code-2.ensures.same c.of.ensures;
     }
