@@ -14,8 +14,8 @@ use Rattle.shape_files.specs.declared.refusal.LineFault.TheVariants as fault
 use Rattle.shape_files.specs.declared.refusal.ShapeRefusal.{ShapeRefusal}
 use Rattle.shape_files.specs.declared.refusal.ShapeRefusal.TheVariants.{Refused, Disk, TableDisk, Memory}
 use Rattle.shape_files.specs.Lines.{Said, Nothing, Table, Index, Other, said_in_line}
-use Rattle.shape_files.specs.Refusals.{AtLineIs, IsNoTable, IsUnfitTable, LineFaultIs, LinesRefusalIs, LongFile, NoFile}
-use Rattle.shape_files.specs.Refusals.{OtherFile, ShapeRefusalIs, TableFaultIs}
+use Rattle.shape_files.specs.Refusals.{AtLineIs, IsUnfitTable, LacksTable, LineFaultIs, LinesRefusalIs, LongFile}
+use Rattle.shape_files.specs.Refusals.{NoFile, OtherFile, ShapeRefusalIs, TableFaultIs}
 use Rattle.shape_files.specs.Shapes.{Declare, HasFields, LineDeclares, DeclaresTable, file_name, no_shape}
 
 -- ---- what lines declare of the same files
@@ -60,8 +60,8 @@ no_lines (b ∷ rest) e = absurd (omega (arith, e))
 
 -- ---- what faults lines have of the same files
 
-no_table_before : (a b : Holds) (name : List ℕ) → SameFiles a b → IsNoTable (b (file_name name))
-    → IsNoTable (a (file_name name))
+no_table_before : (a b : Holds) (name : List ℕ) → SameFiles a b → LacksTable (b (file_name name))
+    → LacksTable (a (file_name name))
 no_table_before a b name same (NoFile absent) = NoFile ((same (file_name name) None).1 absent)
 no_table_before a b name same (LongFile l) = LongFile (record {
   bytes = l.bytes;
@@ -81,8 +81,8 @@ unfit_before a b tables name same u = record {
 }
 
 file_before : (a b : Holds) (tables : List TableShape) (name : List ℕ) → SameFiles a b
-    → IsNoTable (b (file_name name)) ⊎ IsUnfitTable (b (file_name name)) tables name
-    → IsNoTable (a (file_name name)) ⊎ IsUnfitTable (a (file_name name)) tables name
+    → LacksTable (b (file_name name)) ⊎ IsUnfitTable (b (file_name name)) tables name
+    → LacksTable (a (file_name name)) ⊎ IsUnfitTable (a (file_name name)) tables name
 file_before a b tables name same (inl none) = inl (no_table_before a b name same none)
 file_before a b tables name same (inr unfit) = inr (unfit_before a b tables name same unfit)
 

@@ -23,7 +23,7 @@ use Rattle.shape_files.specs.declared.refusal.LineRefusal.{LineRefusal}
 use Rattle.shape_files.specs.declared.refusal.LineRefusal.TheVariants as line
 use Rattle.shape_files.specs.Keys.{SpellsNoKey}
 use Rattle.shape_files.specs.Lines.{Index, Table}
-use Rattle.shape_files.specs.Refusals.{FieldsRefusalIs, HoldsNoTable, IndexRefusalIs, IsNoTable, LineRefusalIs}
+use Rattle.shape_files.specs.Refusals.{FieldsRefusalIs, HoldsNoTable, IndexRefusalIs, LacksTable, LineRefusalIs}
 use Rattle.shape_files.specs.Refusals.{OtherFile}
 use Rattle.shape_files.specs.Shapes.{HasFields, NamesTable, SaysIndex, file_name, is_new_index_name}
 use Rattle.shape_files.specs.Shapes.{is_new_table_name, is_table_named}
@@ -79,7 +79,8 @@ no_file name e (inl none) = none (name_is_text name e).0
 no_file name e (inr long) = absurd (omega (arith, long, (name_is_text name e).1))
 
 no_table : (holds : Holds) (name : List ℕ) → is_file_name name ≡ true
-    → ((¬ (IsUtf8 name)) ⊎ (8 < length name)) ⊎ IsNoTable (holds (file_name name)) → IsNoTable (holds (file_name name))
+    → ((¬ (IsUtf8 name)) ⊎ (8 < length name)) ⊎ LacksTable (holds (file_name name))
+    → LacksTable (holds (file_name name))
 no_table holds name e (inl none) = absurd (no_file name e none)
 no_table holds name e (inr none) = none
 

@@ -36,10 +36,10 @@ HoldsNoTable bytes = (structure : StructureState) (rows : List Row) (stamp : Sta
     → DbfText structure rows stamp bytes → length rows ≤ 1000000 → ⊥
 
 -- the file of a table is absent, too long, or no table's
-pub data IsNoTable (holds : Option (List ℕ) → Type 0) : Type 0 where
-  NoFile : holds None → IsNoTable holds
-  LongFile : IsTooLong holds → IsNoTable holds
-  OtherFile : (bytes : List ℕ) → holds (Some bytes) → HoldsNoTable bytes → IsNoTable holds
+pub data LacksTable (holds : Option (List ℕ) → Type 0) : Type 0 where
+  NoFile : holds None → LacksTable holds
+  LongFile : IsTooLong holds → LacksTable holds
+  OtherFile : (bytes : List ℕ) → holds (Some bytes) → HoldsNoTable bytes → LacksTable holds
 
 -- the table of that name in the file can't be declared behind these
 pub record IsUnfitTable (holds : Option (List ℕ) → Type 0) (tables : List TableShape) (name : List ℕ) : Type 0 where
@@ -59,7 +59,7 @@ TableFaultIs holds before name fault.Limit =
     (is_new_table_name before.tables name ≡ true) × (32 ≤ length before.tables)
 TableFaultIs holds before name fault.Table =
     (is_new_table_name before.tables name ≡ true) × (length before.tables < 32)
-    × (IsNoTable (holds (file_name name)) ⊎ IsUnfitTable (holds (file_name name)) before.tables name)
+    × (LacksTable (holds (file_name name)) ⊎ IsUnfitTable (holds (file_name name)) before.tables name)
 
 abbrev pub IndexFaultIs : Shape → List ℕ → List ℕ → List ℕ → LineFault → Type 0
 IndexFaultIs before name table key fault.Word = ⊥
@@ -123,7 +123,7 @@ IndexRefusalIs shape name table key line.Memory = Unit {0}
 -- failure that was counted, or memory
 abbrev pub FieldsRefusalIs : Holds → List ℕ → ℕ → ℕ → LineRefusal → Type 0
 FieldsRefusalIs holds name before after (line.Fault f) = (f ≡ fault.Table)
-    × (((¬ (IsUtf8 name)) ⊎ (8 < length name)) ⊎ IsNoTable (holds (file_name name)))
+    × (((¬ (IsUtf8 name)) ⊎ (8 < length name)) ⊎ LacksTable (holds (file_name name)))
 FieldsRefusalIs holds name before after (line.Disk table) = Rose before after
 FieldsRefusalIs holds name before after line.Memory = Unit {0}
 
