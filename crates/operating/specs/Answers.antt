@@ -1,8 +1,11 @@
 -- What an operator answers, and what a journal keeps of it.
 use Rattle.std.specs.Prelude.{◌≡◌, ◌++◌, ◌⊎◌, ℕ, List, []}
+use Rattle.file_access.specs.Holding.{Rose}
 use Rattle.line_journal.specs.Kept.{ended_by_lf}
 use Rattle.operating.specs.declared.operator.Answer.{Answer}
 use Rattle.operating.specs.declared.operator.Answer.TheVariants.{Line, End}
+use Rattle.operating.specs.declared.operator.Broken.{Broken}
+use Rattle.operating.specs.declared.operator.Broken.TheVariants as broken
 
 -- what an answer adds to a journal: a line with LF behind it, and nothing where the input ends
 abbrev pub answer_bytes : Answer → List ℕ
@@ -22,3 +25,11 @@ pub record LastUnkept (told_before told_after held_before held_after : List ℕ)
   pub told : told_after ≡ (told_before ++ typed) ++ last
   pub held : held_after ≡ held_before ++ typed
   pub one : (last ≡ []) ⊎ ((line : List ℕ) × (last ≡ ended_by_lf line))
+
+-- how often the journal failed before and after a conversation broke off: more often where the journal is why, and else
+-- as often
+abbrev pub BrokeOff : ℕ → ℕ → Broken → Type 0
+BrokeOff before after broken.Operator = after ≡ before
+BrokeOff before after broken.Journal = Rose before after
+BrokeOff before after broken.Line = after ≡ before
+BrokeOff before after broken.Memory = after ≡ before

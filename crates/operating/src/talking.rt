@@ -1,10 +1,11 @@
 //! Runs of accepted code that ask an operator for lines.
 
-ghost use Rattle.std.specs.Prelude.{◌≡◌, ◌≤◌, true, Option, length, IfOk, OnErr, OnOk};
+ghost use Rattle.std.specs.Prelude.{◌≡◌, ◌≤◌, true, Option, length, IfErr, IfOk, OnErr, OnOk};
 ghost use Rattle.calendar.specs.declared.day.DayParts.{DayParts};
 ghost use Rattle.machine.specs.Showing.{shown_next};
 ghost use Rattle.machine.specs.Twins.{Twin};
-ghost use Rattle.operating.specs.Answers.{AnswersKept, LastUnkept};
+ghost use Rattle.operating.specs.Answers.{AnswersKept, BrokeOff, LastUnkept};
+ghost use Rattle.operating.specs.declared.operator.Broken.TheVariants.{Operator as OfOperator};
 ghost use Rattle.operating.specs.Talks.{ComesTo, IsCounted, IsNearer, Talked, TookLine, Turned};
 ghost use Rattle.run_steps.specs.Shapes.{StoreFits};
 ghost use Rattle.run_steps.specs.World.{World};
@@ -83,6 +84,8 @@ fn take_one<J: Journal, O: Operator, K: KeyList>(
         (J.holds journal.old) (J.holds journal.new)) }
     ensures unkept { OnErr result (LastUnkept (O.answered operator.old) (O.answered operator.new)
         (J.holds journal.old) (J.holds journal.new)) }
+    ensures unfailed { OnOk result (J.failed journal.new ≡ J.failed journal.old) }
+    ensures broke { IfErr result (BrokeOff (J.failed journal.old) (J.failed journal.new)) }
 {
     let room = most - used;
     let line = match operator.ask(&view_of(verified, banks), room) {
@@ -110,6 +113,7 @@ pub(crate) fn show<O: Operator, K: KeyList>(
 ) -> Result<(), Broken>
     requires { (w : World) × Twin verified.now w banks.now }
     ensures untold { O.answered operator.new ≡ O.answered operator.old }
+    ensures broke { IfErr result (λ why. why ≡ OfOperator) }
 {
     match operator.see(&marked_view(verified, banks)) {
         Ok(()) => Ok(()),
@@ -124,6 +128,7 @@ pub(crate) fn miss<O: Operator, K: KeyList>(
     banks: &Banks<K>,
 ) -> Result<(), Broken>
     ensures untold { O.answered operator.new ≡ O.answered operator.old }
+    ensures broke { IfErr result (λ why. why ≡ OfOperator) }
 {
     match operator.miss(&view_of(verified, banks)) {
         Ok(()) => Ok(()),
@@ -138,6 +143,7 @@ fn close<O: Operator, K: KeyList>(
     banks: &Banks<K>,
 ) -> Result<(), Broken>
     ensures untold { O.answered operator.new ≡ O.answered operator.old }
+    ensures broke { IfErr result (λ why. why ≡ OfOperator) }
 {
     match operator.end(&view_of(verified, banks)) {
         Ok(()) => Ok(()),
@@ -174,6 +180,8 @@ fn answer<J: Journal, O: Operator, K: KeyList>(
         (J.holds journal.old) (J.holds journal.new)) }
     ensures unkept { OnErr result (LastUnkept (O.answered operator.old) (O.answered operator.new)
         (J.holds journal.old) (J.holds journal.new)) }
+    ensures unfailed { OnOk result (J.failed journal.new ≡ J.failed journal.old) }
+    ensures broke { IfErr result (BrokeOff (J.failed journal.old) (J.failed journal.new)) }
 {
     banks_go_on(verified);
     lines_behind_change_no_step();
@@ -220,6 +228,8 @@ fn take_turn<J: Journal, O: Operator, K: KeyList>(
         (J.holds journal.old) (J.holds journal.new)) }
     ensures unkept { OnErr result (LastUnkept (O.answered operator.old) (O.answered operator.new)
         (J.holds journal.old) (J.holds journal.new)) }
+    ensures unfailed { OnOk result (J.failed journal.new ≡ J.failed journal.old) }
+    ensures broke { IfErr result (BrokeOff (J.failed journal.old) (J.failed journal.new)) }
 {
     pieces_make_the_whole();
     let left = budget - steps;
@@ -279,6 +289,8 @@ fn take_turns<J: Journal, O: Operator, K: KeyList>(
         (J.holds journal.old) (J.holds journal.new)) }
     ensures unkept { OnErr result (LastUnkept (O.answered operator.old) (O.answered operator.new)
         (J.holds journal.old) (J.holds journal.new)) }
+    ensures unfailed { OnOk result (J.failed journal.new ≡ J.failed journal.old) }
+    ensures broke { IfErr result (BrokeOff (J.failed journal.old) (J.failed journal.new)) }
 {
     let mut steps = 0;
     let mut used = used;
@@ -302,6 +314,7 @@ fn take_turns<J: Journal, O: Operator, K: KeyList>(
 /// Tells the operator that the run begins. Answers which places are marked.
 fn begin<O: Operator>(verified: &Verified, operator: &mut O) -> Result<Vec<bool>, Broken>
     ensures untold { O.answered operator.new ≡ O.answered operator.old }
+    ensures broke { IfErr result (λ why. why ≡ OfOperator) }
 {
     match operator.begin(verified.code()) {
         Ok(marks) => Ok(marks),
@@ -361,6 +374,7 @@ pub struct EndedTalk<K: KeyList> {
 ///
 /// # Errors
 /// The operator or the journal failed, or a line isn't one, or memory was refused before the run began or for a line.
+/// The journal is why only where it failed, and counted that.
 pub fn converse<J: Journal, O: Operator, K: KeyList>(
     alloc: Global,
     verified: &Verified,
@@ -385,6 +399,8 @@ pub fn converse<J: Journal, O: Operator, K: KeyList>(
         (J.holds journal.old) (J.holds journal.new)) }
     ensures unkept { OnErr result (LastUnkept (O.answered operator.old) (O.answered operator.new)
         (J.holds journal.old) (J.holds journal.new)) }
+    ensures unfailed { OnOk result (J.failed journal.new ≡ J.failed journal.old) }
+    ensures broke { IfErr result (BrokeOff (J.failed journal.old) (J.failed journal.new)) }
 {
     let marks = begin(verified, operator)?;
     let mut banks = begun(alloc, verified, store, today, handed)?;

@@ -10,11 +10,13 @@ use std::alloc::Global;
 use std::fs::File;
 use std::rt::Runtime;
 
-/// The journal of a conversation: lines on the device, and the bytes that were brought there.
+/// The journal of a conversation: lines on the device, the bytes that were brought there, and how often it failed, as
+/// far as 2^64 - 1.
 #[derive(Drop)]
 pub struct KeptJournal {
     pub file: JournalFile,
     pub bytes: Vec<u8>,
+    pub failures: u64,
     ghost counted: { bytes_counted file ≡ length bytes.items },
 }
 
@@ -32,6 +34,7 @@ impl KeptJournal {
             let journal = KeptJournal {
                 file: JournalFile::make(rt, name, no_lock)?,
                 bytes: Vec::new(rt.alloc()),
+                failures: 0,
             };
             return Ok((journal, None));
         }
@@ -39,6 +42,7 @@ impl KeptJournal {
         let journal = KeptJournal {
             file: taken.journal,
             bytes: taken.lines,
+            failures: 0,
         };
         Ok((journal, taken.tail))
     }
@@ -47,11 +51,11 @@ impl KeptJournal {
 impl Journal for KeptJournal {
     ghost holds = { λ journal. journal.bytes.items };
 
+    ghost failed = { λ journal. journal.failures };
+
     fn append(&mut self, bytes: &[u8]) -> Result<(), JournalFailed> {
-        if self.bytes.reserve(bytes.len()).is_err() {
-            return Err(JournalFailed);
-        }
-        if self.file.add(bytes).is_err() {
+        if self.bytes.reserve(bytes.len()).is_err() || self.file.add(bytes).is_err() {
+            self.failures = self.failures.saturating_add(1);
             return Err(JournalFailed);
         }
         self.bytes.extend_from_slice(bytes).unwrap();

@@ -17,20 +17,24 @@ use std::fs::File;
 use std::rt::Runtime;
 use text_lines::without_return;
 
-/// The lines that a run took, in memory alone.
+/// The lines that a run took, in memory alone, and how often memory for one was refused, as far as 2^64 - 1.
 #[derive(Drop)]
 pub struct TakenLines {
     pub bytes: Vec<u8>,
+    pub failures: u64,
 }
 
 impl Journal for TakenLines {
     ghost holds = { λ lines. lines.bytes.items };
 
+    ghost failed = { λ lines. lines.failures };
+
     fn append(&mut self, bytes: &[u8]) -> Result<(), JournalFailed> {
-        match self.bytes.extend_from_slice(bytes) {
-            Ok(()) => Ok(()),
-            Err(_) => Err(JournalFailed),
+        if self.bytes.extend_from_slice(bytes).is_err() {
+            self.failures = self.failures.saturating_add(1);
+            return Err(JournalFailed);
         }
+        Ok(())
     }
 }
 
@@ -41,6 +45,7 @@ impl TakenLines {
     {
         TakenLines {
             bytes: Vec::new(alloc),
+            failures: 0,
         }
     }
 

@@ -18,13 +18,17 @@ use std::alloc::{AllocError, Global};
 struct Kept {
     bytes: Vec<u8>,
     room: usize,
+    failures: u64,
 }
 
 impl Journal for Kept {
     ghost holds = { λ journal. journal.bytes.items };
 
+    ghost failed = { λ journal. journal.failures };
+
     fn append(&mut self, bytes: &[u8]) -> Result<(), JournalFailed> {
         if self.room == 0 || self.bytes.extend_from_slice(bytes).is_err() {
+            self.failures = self.failures.saturating_add(1);
             return Err(JournalFailed);
         }
         self.room -= 1;
@@ -242,6 +246,7 @@ pub fn talks_well(alloc: Global, case: RunCase<'_>) -> bool {
     let mut journal = Kept {
         bytes,
         room: case.number("room ", 100) as usize,
+        failures: 0,
     };
     let mut script = Script {
         alloc,
@@ -252,6 +257,7 @@ pub fn talks_well(alloc: Global, case: RunCase<'_>) -> bool {
         answers: Kept {
             bytes: Vec::new(alloc),
             room: usize::MAX,
+            failures: 0,
         },
     };
     is_well(alloc, handed, &mut journal, &mut script, case)

@@ -1,31 +1,42 @@
 -- What lines declare of files that stay the same, lines that were taken, and what is told.
 use Rattle.std.proofs.Common.{◌≡◌, ◌≤◌, ◌+◌, ℕ, List, [], ◌∷◌, ◌++◌, Some, length, length-append, append_assoc}
-use Rattle.std.proofs.Common.{append-nil, refl, sym, ap, ◌∙◌, subst, arith}
+use Rattle.std.proofs.Common.{append-nil, inl, inr, refl, sym, ap, ◌∙◌, subst, arith}
+use Rattle.std.specs.Prelude.{◌⊎◌, None}
+use Rattle.dbf_file.specs.declared.field.Field.{Field}
 use Rattle.file_access.specs.Holding.{Holds, SameFiles}
 use Rattle.file_access.proofs.Holding.{rose_later}
+use Rattle.shape.specs.declared.tables.TableShape.{TableShape}
 use Rattle.shape.specs.declared.whole.Shape.{Shape}
 use Rattle.text_lines.specs.Lines.{lines}
 use Rattle.shape_files.specs.declared.refusal.DeclFault.TheVariants.{Absent, TooLong, Line}
+use Rattle.shape_files.specs.declared.refusal.LineFault.{LineFault}
+use Rattle.shape_files.specs.declared.refusal.LineFault.TheVariants as fault
 use Rattle.shape_files.specs.declared.refusal.ShapeRefusal.{ShapeRefusal}
 use Rattle.shape_files.specs.declared.refusal.ShapeRefusal.TheVariants.{Refused, Disk, TableDisk, Memory}
 use Rattle.shape_files.specs.Lines.{Said, Nothing, Table, Index, Other, said_in_line}
-use Rattle.shape_files.specs.Refusals.{AtLineIs, LinesRefusalIs, ShapeRefusalIs}
-use Rattle.shape_files.specs.Shapes.{Declare, LineDeclares, DeclaresTable, file_name, no_shape}
+use Rattle.shape_files.specs.Refusals.{AtLineIs, IsUnfitTable, LacksTable, LineFaultIs, LinesRefusalIs, LongFile}
+use Rattle.shape_files.specs.Refusals.{NoFile, OtherFile, ShapeRefusalIs, TableFaultIs}
+use Rattle.shape_files.specs.Shapes.{Declare, HasFields, LineDeclares, DeclaresTable, file_name, no_shape}
 
 -- ---- what lines declare of the same files
+
+fields_before : (a b : Holds) (name : List ℕ) (fields : List Field) → SameFiles a b
+    → HasFields (b (file_name name)) fields → HasFields (a (file_name name)) fields
+fields_before a b name fields same h = record {
+  bytes = h.bytes;
+  held = (same (file_name name) (Some h.bytes)).1 h.held;
+  short = h.short;
+  table = h.table;
+}
 
 table_before : (a b : Holds) (name : List ℕ) (before after : Shape) → SameFiles a b → DeclaresTable b name before after
     → DeclaresTable a name before after
 table_before a b name before after same d = record {
   table = d.table;
   named = d.named;
-  file = record {
-    bytes = d.file.bytes;
-    held = (same (file_name name) (Some d.file.bytes)).1 d.file.held;
-    short =
-        d.file.short;
-    table = d.file.table;
-  };
+  file = fields_before a b name d.table.fields same d.file;
+  next = d.next;
+  room = d.room;
   added = d.added;
 }
 
@@ -46,6 +57,49 @@ pub no_lines : (rest : List ℕ) → length rest ≡ 0 → lines rest ≡ []
 unfolding lines
 no_lines [] e = refl
 no_lines (b ∷ rest) e = absurd (omega (arith, e))
+
+-- ---- what faults lines have of the same files
+
+no_table_before : (a b : Holds) (name : List ℕ) → SameFiles a b → LacksTable (b (file_name name))
+    → LacksTable (a (file_name name))
+no_table_before a b name same (NoFile absent) = NoFile ((same (file_name name) None).1 absent)
+no_table_before a b name same (LongFile l) = LongFile (record {
+  bytes = l.bytes;
+  held = (same (file_name name) (Some l.bytes)).1 l.held;
+  long = l.long;
+})
+no_table_before a b name same (OtherFile bytes held none) =
+    OtherFile bytes ((same (file_name name) (Some bytes)).1 held) none
+
+unfit_before : (a b : Holds) (tables : List TableShape) (name : List ℕ) → SameFiles a b
+    → IsUnfitTable (b (file_name name)) tables name → IsUnfitTable (a (file_name name)) tables name
+unfit_before a b tables name same u = record {
+  table = u.table;
+  named = u.named;
+  file = fields_before a b name u.table.fields same u.file;
+  unfit = u.unfit;
+}
+
+file_before : (a b : Holds) (tables : List TableShape) (name : List ℕ) → SameFiles a b
+    → LacksTable (b (file_name name)) ⊎ IsUnfitTable (b (file_name name)) tables name
+    → LacksTable (a (file_name name)) ⊎ IsUnfitTable (a (file_name name)) tables name
+file_before a b tables name same (inl none) = inl (no_table_before a b name same none)
+file_before a b tables name same (inr unfit) = inr (unfit_before a b tables name same unfit)
+
+table_fault_before : (a b : Holds) (s : Shape) (name : List ℕ) (f : LineFault) → SameFiles a b → TableFaultIs b s name f
+    → TableFaultIs a s name f
+table_fault_before a b s name fault.Word same t = t
+table_fault_before a b s name fault.Name same t = t
+table_fault_before a b s name fault.Key same t = t
+table_fault_before a b s name fault.Limit same t = t
+table_fault_before a b s name fault.Table same t = (t.0, t.1, file_before a b s.tables name same t.2)
+
+pub fault_before : (a b : Holds) (s : Shape) (says : Said) (f : LineFault) → SameFiles a b → LineFaultIs b s says f
+    → LineFaultIs a s says f
+fault_before a b s Nothing f same t = t
+fault_before a b s (Table name) f same t = table_fault_before a b s name f same t
+fault_before a b s (Index name table key) f same t = t
+fault_before a b s Other f same t = t
 
 -- ---- lines that were taken
 
@@ -82,12 +136,12 @@ all_passed a all rest n s e p =
 
 -- ---- what is told
 
-pub line_told : (r : ShapeRefusal) (holds : Holds) (all rest behind : List (List ℕ)) (text : List ℕ) (n : ℕ) (s : Shape)
-    (a b c : ℕ) → rest ≡ text ∷ behind → Passed holds all rest n s → a ≤ b → b ≤ c
-    → AtLineIs (n + 1) s (said_in_line text) b c r → LinesRefusalIs holds all a c r
-line_told (Refused Absent) holds all rest behind text n s a b c e p l m t = absurd t
-line_told (Refused TooLong) holds all rest behind text n s a b c e p l m t = absurd t
-line_told (Refused (Line told f)) holds all rest behind text n s a b c e p l m t = record {
+pub line_told : (r : ShapeRefusal) (holds read : Holds) (all rest behind : List (List ℕ)) (text : List ℕ) (n : ℕ)
+    (s : Shape) (a b c : ℕ) → rest ≡ text ∷ behind → SameFiles holds read → Passed holds all rest n s → a ≤ b → b ≤ c
+    → AtLineIs read (n + 1) s (said_in_line text) b c r → LinesRefusalIs holds all a c r
+line_told (Refused Absent) holds read all rest behind text n s a b c e same p l m t = absurd t
+line_told (Refused TooLong) holds read all rest behind text n s a b c e same p l m t = absurd t
+line_told (Refused (Line told f)) holds read all rest behind text n s a b c e same p l m t = record {
   front = p.front;
   text = text;
   behind = behind;
@@ -95,11 +149,11 @@ line_told (Refused (Line told f)) holds all rest behind text n s a b c e p l m t
   place = t.0 ∙ ap (λ x. x + 1) p.count;
   shape = s;
   declared = p.declared;
-  faulty = t.1;
+  faulty = fault_before holds read s (said_in_line text) f same t.1;
 }
-line_told Disk holds all rest behind text n s a b c e p l m t = absurd t
-line_told (TableDisk name) holds all rest behind text n s a b c e p l m t = rose_later a b c l m t
-line_told Memory holds all rest behind text n s a b c e p l m t = tt
+line_told Disk holds read all rest behind text n s a b c e same p l m t = absurd t
+line_told (TableDisk name) holds read all rest behind text n s a b c e same p l m t = rose_later a b c l m t
+line_told Memory holds read all rest behind text n s a b c e same p l m t = tt
 
 pub lines_told : (r : ShapeRefusal) (first read : Holds) (name bytes : List ℕ) (a b c : ℕ) → SameFiles first read
     → first name (Some bytes) → a ≤ b → b ≤ c → LinesRefusalIs read (lines bytes) b c r
@@ -117,7 +171,7 @@ lines_told (Refused (Line number f)) first read name bytes a b c same held l m t
     place = t.place;
     shape = t.shape;
     declared = declare_before first read t.front no_shape t.shape same t.declared;
-    faulty = t.faulty;
+    faulty = fault_before first read t.shape (said_in_line t.text) f same t.faulty;
   };
 }
 lines_told Disk first read name bytes a b c same held l m t = absurd t

@@ -1,4 +1,6 @@
 pub mod FileLemmas
 pub mod KeyLemmas
 pub mod ListingLemmas
+pub mod NameLemmas
+pub mod RefusalLemmas
 pub mod ShapeLemmas

@@ -12,7 +12,7 @@ use Rattle.shape_files.specs.Listing.{Faulty, Further, Good, IsNoLine, IsOfDevic
 use Rattle.shape_files.specs.Refusals.{ShapeRefusalIs}
 use Rattle.shape_files.specs.Shapes.{Declare, no_shape}
 use Rattle.file_access.proofs.Holding.{rose_later}
-use Rattle.shape_files.proofs.FileLemmas.{declare_more, declares_before}
+use Rattle.shape_files.proofs.FileLemmas.{declare_more, declares_before, fault_before}
 
 -- of all lines so many are judged, and the rest are left
 pub record Judged (holds : Holds) (all rest : List (List ℕ)) (number : ℕ) (shape : Shape)
@@ -48,7 +48,8 @@ all_judged a all rest n s found e p =
 pub line_before : (a b : Holds) (n : ℕ) (text : List ℕ) (s t : Shape) (found more : List DeclFault) → SameFiles a b
     → JudgedLine b n text s t found more → JudgedLine a n text s t found more
 line_before a b n text s t found more same (Good d e) = Good (declares_before a b (said_in_line text) s t same d) e
-line_before a b n text s t found more same (Faulty f told kept e) = Faulty f told kept e
+line_before a b n text s t found more same (Faulty f told kept e) =
+    Faulty f (fault_before a b s (said_in_line text) f same told) kept e
 
 pub lines_before : (a b : Holds) (ls : List (List ℕ)) (s : Shape) (found : List DeclFault) → SameFiles a b
     → JudgedLines b ls s found → JudgedLines a ls s found

@@ -17,7 +17,7 @@ pub data JudgedLine (holds : Holds) (number : ℕ) (text : List ℕ) (before aft
     : Type 0 where
   Good : LineDeclares holds (said_in_line text) before after → more ≡ found
       → JudgedLine holds number text before after found more
-  Faulty : (f : LineFault) → LineFaultIs before (said_in_line text) f → after ≡ before
+  Faulty : (f : LineFault) → LineFaultIs holds before (said_in_line text) f → after ≡ before
       → more ≡ found ++ Line number f ∷ [] → JudgedLine holds number text before after found more
 
 -- What lines declare, and their faults, line by line from 1.

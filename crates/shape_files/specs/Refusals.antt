@@ -1,7 +1,16 @@
 -- Why a shape isn't read.
-use Rattle.std.specs.Prelude.{◌≡◌, ℕ, ◌+◌, ◌<◌, ◌≤◌, List, ◌∷◌, ◌++◌, Option, Some, None, length}
+use Rattle.std.specs.Prelude.{◌≡◌, ℕ, ◌+◌, ◌<◌, ◌≤◌, ◌⊎◌, true, false, List, ◌∷◌, ◌++◌, Option, Some, None}
+use Rattle.std.specs.Prelude.{length, take}
+use Rattle.std.specs.Str.{IsUtf8}
+use Rattle.dbf_file.specs.declared.stamp.Stamp.{Stamp}
+use Rattle.dbf_file.specs.Rows.{Row}
+use Rattle.dbf_file.specs.Tables.{StructureState, DbfText}
 use Rattle.file_access.specs.Holding.{Holds, Rose}
+use Rattle.shape.specs.declared.indexes.IndexShape.{IndexShape}
+use Rattle.shape.specs.declared.tables.TableShape.{TableShape}
 use Rattle.shape.specs.declared.whole.Shape.{Shape}
+use Rattle.shape.specs.Indexes.{is_next_index}
+use Rattle.shape.specs.Tables.{is_next_table}
 use Rattle.text_lines.specs.Lines.{lines}
 use Rattle.shape_files.specs.declared.refusal.DeclFault.{DeclFault}
 use Rattle.shape_files.specs.declared.refusal.DeclFault.TheVariants.{Absent, TooLong, Line}
@@ -12,7 +21,8 @@ use Rattle.shape_files.specs.declared.refusal.LineRefusal.TheVariants as line
 use Rattle.shape_files.specs.declared.refusal.ShapeRefusal.{ShapeRefusal}
 use Rattle.shape_files.specs.declared.refusal.ShapeRefusal.TheVariants.{Refused, Disk, TableDisk, Memory}
 use Rattle.shape_files.specs.Lines.{Said, Nothing, Table, Index, Other, said_in_line}
-use Rattle.shape_files.specs.Shapes.{Declare, no_shape}
+use Rattle.shape_files.specs.Shapes.{Declare, HasFields, IsFaultyKey, SaysIndex, file_name, is_new_index_name}
+use Rattle.shape_files.specs.Shapes.{is_new_table_name, is_table_named, no_shape}
 
 -- a file longer than 64 MiB
 pub record IsTooLong (holds : Option (List ℕ) → Type 0) : Type 0 where
@@ -20,25 +30,53 @@ pub record IsTooLong (holds : Option (List ℕ) → Type 0) : Type 0 where
   pub held : holds (Some bytes)
   pub long : 67108864 < length bytes
 
--- Which faults a line may have by what it says, behind lines that declare the shape. A line that says none of what a
--- line may say has Word alone. A table has no Key, and an index no Table. Limit is the fault of what is one too many.
-abbrev pub LineFaultIs : Shape → Said → LineFault → Type 0
-LineFaultIs before Nothing f = ⊥
-LineFaultIs before (Table name) fault.Word = ⊥
-LineFaultIs before (Table name) fault.Name = Unit {0}
-LineFaultIs before (Table name) fault.Key = ⊥
-LineFaultIs before (Table name) fault.Limit = 32 ≤ length before.tables
-LineFaultIs before (Table name) fault.Table = Unit {0}
-LineFaultIs before (Index name table key) fault.Word = ⊥
-LineFaultIs before (Index name table key) fault.Name = Unit {0}
-LineFaultIs before (Index name table key) fault.Key = Unit {0}
-LineFaultIs before (Index name table key) fault.Limit = 64 ≤ length before.indexes
-LineFaultIs before (Index name table key) fault.Table = ⊥
-LineFaultIs before Other fault.Word = Unit {0}
-LineFaultIs before Other fault.Name = ⊥
-LineFaultIs before Other fault.Key = ⊥
-LineFaultIs before Other fault.Limit = ⊥
-LineFaultIs before Other fault.Table = ⊥
+-- no table of at most a million rows stands in the bytes
+abbrev pub HoldsNoTable : List ℕ → Type 0
+HoldsNoTable bytes = (structure : StructureState) (rows : List Row) (stamp : Stamp)
+    → DbfText structure rows stamp bytes → length rows ≤ 1000000 → ⊥
+
+-- the file of a table is absent, too long, or no table's
+pub data LacksTable (holds : Option (List ℕ) → Type 0) : Type 0 where
+  NoFile : holds None → LacksTable holds
+  LongFile : IsTooLong holds → LacksTable holds
+  OtherFile : (bytes : List ℕ) → holds (Some bytes) → HoldsNoTable bytes → LacksTable holds
+
+-- the table of that name in the file can't be declared behind these
+pub record IsUnfitTable (holds : Option (List ℕ) → Type 0) (tables : List TableShape) (name : List ℕ) : Type 0 where
+  pub table : TableShape
+  pub named : table.name.items ≡ name
+  pub file : HasFields holds table.fields
+  pub unfit : is_next_table tables table ≡ false
+
+-- Which faults a line has by what it says, behind lines that declare the shape: that of a table, of an index, and any.
+-- A line that says none of what a line may say has Word alone. A table has no Key, and an index no Table. Limit is the
+-- fault of what is one too many.
+abbrev pub TableFaultIs : Holds → Shape → List ℕ → LineFault → Type 0
+TableFaultIs holds before name fault.Word = ⊥
+TableFaultIs holds before name fault.Name = is_new_table_name before.tables name ≡ false
+TableFaultIs holds before name fault.Key = ⊥
+TableFaultIs holds before name fault.Limit =
+    (is_new_table_name before.tables name ≡ true) × (32 ≤ length before.tables)
+TableFaultIs holds before name fault.Table =
+    (is_new_table_name before.tables name ≡ true) × (length before.tables < 32)
+    × (LacksTable (holds (file_name name)) ⊎ IsUnfitTable (holds (file_name name)) before.tables name)
+
+abbrev pub IndexFaultIs : Shape → List ℕ → List ℕ → List ℕ → LineFault → Type 0
+IndexFaultIs before name table key fault.Word = ⊥
+IndexFaultIs before name table key fault.Name =
+    (is_new_index_name before.indexes name ≡ false) ⊎ (is_table_named (take 256 before.tables) table ≡ false)
+IndexFaultIs before name table key fault.Key =
+    (is_new_index_name before.indexes name ≡ true) × IsFaultyKey before name table key
+IndexFaultIs before name table key fault.Limit =
+    (index : IndexShape) × SaysIndex before name table key index
+    × (is_next_index before.tables before.indexes index ≡ true) × (64 ≤ length before.indexes)
+IndexFaultIs before name table key fault.Table = ⊥
+
+abbrev pub LineFaultIs : Holds → Shape → Said → LineFault → Type 0
+LineFaultIs holds before Nothing f = ⊥
+LineFaultIs holds before (Table name) f = TableFaultIs holds before name f
+LineFaultIs holds before (Index name table key) f = IndexFaultIs before name table key f
+LineFaultIs holds before Other f = f ≡ fault.Word
 
 -- the line of that number, counted from 1, has the fault, and those before it declare a shape
 pub record IsFaultyLine (holds : Holds) (all : List (List ℕ)) (number : ℕ) (f : LineFault) : Type 0 where
@@ -49,7 +87,7 @@ pub record IsFaultyLine (holds : Holds) (all : List (List ℕ)) (number : ℕ) (
   pub place : number ≡ length front + 1
   pub shape : Shape
   pub declared : Declare holds front no_shape shape
-  pub faulty : LineFaultIs shape (said_in_line text) f
+  pub faulty : LineFaultIs holds shape (said_in_line text) f
 
 -- so has the file of that name
 pub record IsFaulty (holds : Holds) (name : List ℕ) (number : ℕ) (f : LineFault) : Type 0 where
@@ -70,19 +108,34 @@ ShapeRefusalIs holds name before after (TableDisk table) = Rose before after
 ShapeRefusalIs holds name before after Memory = Unit {0}
 
 -- the same of a line that says this, behind lines that declare the shape
-abbrev pub LineRefusalIs : Shape → Said → ℕ → ℕ → LineRefusal → Type 0
-LineRefusalIs shape says before after (line.Fault f) = LineFaultIs shape says f
-LineRefusalIs shape says before after (line.Disk table) = Rose before after
-LineRefusalIs shape says before after line.Memory = Unit {0}
+abbrev pub LineRefusalIs : Holds → Shape → Said → ℕ → ℕ → LineRefusal → Type 0
+LineRefusalIs holds shape says before after (line.Fault f) = LineFaultIs holds shape says f
+LineRefusalIs holds shape says before after (line.Disk table) = Rose before after
+LineRefusalIs holds shape says before after line.Memory = Unit {0}
 
--- the same with the line's number
-abbrev pub AtLineIs : ℕ → Shape → Said → ℕ → ℕ → ShapeRefusal → Type 0
-AtLineIs number shape says before after (Refused Absent) = ⊥
-AtLineIs number shape says before after (Refused TooLong) = ⊥
-AtLineIs number shape says before after (Refused (Line told f)) = (told ≡ number) × LineFaultIs shape says f
-AtLineIs number shape says before after Disk = ⊥
-AtLineIs number shape says before after (TableDisk table) = Rose before after
-AtLineIs number shape says before after Memory = Unit {0}
+-- the same of a line that says an index, at which no device can fail
+abbrev pub IndexRefusalIs : Shape → List ℕ → List ℕ → List ℕ → LineRefusal → Type 0
+IndexRefusalIs shape name table key (line.Fault f) = IndexFaultIs shape name table key f
+IndexRefusalIs shape name table key (line.Disk file) = ⊥
+IndexRefusalIs shape name table key line.Memory = Unit {0}
+
+-- why the fields of the table of that name aren't read: no file can have the name, or its file is no table's; a device
+-- failure that was counted, or memory
+abbrev pub FieldsRefusalIs : Holds → List ℕ → ℕ → ℕ → LineRefusal → Type 0
+FieldsRefusalIs holds name before after (line.Fault f) = (f ≡ fault.Table)
+    × (((¬ (IsUtf8 name)) ⊎ (8 < length name)) ⊎ LacksTable (holds (file_name name)))
+FieldsRefusalIs holds name before after (line.Disk table) = Rose before after
+FieldsRefusalIs holds name before after line.Memory = Unit {0}
+
+-- the same as that of a line, with the line's number
+abbrev pub AtLineIs : Holds → ℕ → Shape → Said → ℕ → ℕ → ShapeRefusal → Type 0
+AtLineIs holds number shape says before after (Refused Absent) = ⊥
+AtLineIs holds number shape says before after (Refused TooLong) = ⊥
+AtLineIs holds number shape says before after (Refused (Line told f)) =
+    (told ≡ number) × LineFaultIs holds shape says f
+AtLineIs holds number shape says before after Disk = ⊥
+AtLineIs holds number shape says before after (TableDisk table) = Rose before after
+AtLineIs holds number shape says before after Memory = Unit {0}
 
 -- the same of all lines
 abbrev pub LinesRefusalIs : Holds → List (List ℕ) → ℕ → ℕ → ShapeRefusal → Type 0

@@ -1,6 +1,9 @@
 -- What a declaration file declares.
-use Rattle.std.specs.Prelude.{◌≡◌, ℕ, ◌≤◌, List, [], ◌∷◌, ◌++◌, Option, Some, length, map, slice_get, codes}
+use Rattle.std.specs.Prelude.{◌≡◌, ℕ, ◌<◌, ◌≤◌, ◌⊎◌, Bool, true, false, not, ◌&&◌, List, [], ◌∷◌, ◌++◌, Option}
+use Rattle.std.specs.Prelude.{Some, length, map, take, slice_get, codes}
 use Rattle.std.specs.Char.{to_ascii_uppercase}
+use Rattle.std.specs.List.{list_any}
+use Rattle.std.specs.Str.{bytes_eq}
 use Rattle.dbf_file.specs.declared.field.Field.{Field}
 use Rattle.dbf_file.specs.declared.field.Letter.{Letter}
 use Rattle.dbf_file.specs.declared.stamp.Stamp.{Stamp}
@@ -10,9 +13,12 @@ use Rattle.file_access.specs.Holding.{Holds}
 use Rattle.shape.specs.declared.indexes.IndexShape.{IndexShape}
 use Rattle.shape.specs.declared.tables.TableShape.{TableShape}
 use Rattle.shape.specs.declared.whole.Shape.{Shape}
+use Rattle.shape.specs.Indexes.{is_next_index}
+use Rattle.shape.specs.Names.{is_file_name}
+use Rattle.shape.specs.Tables.{is_next_table}
 use Rattle.text_lines.specs.Lines.{lines}
 use Rattle.shape_files.specs.declared.declarations.Declarations.{Declarations}
-use Rattle.shape_files.specs.Keys.{SpellsKey}
+use Rattle.shape_files.specs.Keys.{SpellsKey, SpellsNoKey}
 use Rattle.shape_files.specs.Lines.{Said, Nothing, Table, Index, Other, said_in_line}
 
 -- the shape as far as it is declared
@@ -27,6 +33,22 @@ with_declared_table s t = record { tables = s.tables ++ t ∷ []; indexes = s.in
 
 abbrev pub with_index : Shape → IndexShape → Shape
 with_index s x = record { tables = s.tables; indexes = s.indexes ++ x ∷ [] }
+
+-- ---- names
+
+-- one of these tables, and one of these indexes, has the name
+abbrev pub is_table_named : List TableShape → List ℕ → Bool
+is_table_named tables name = list_any (λ t. bytes_eq t.name.items name) tables
+
+abbrev pub is_index_named : List IndexShape → List ℕ → Bool
+is_index_named indexes name = list_any (λ x. bytes_eq x.name.items name) indexes
+
+-- a table or an index more can have the name
+abbrev pub is_new_table_name : List TableShape → List ℕ → Bool
+is_new_table_name tables name = is_file_name name && not (is_table_named tables name)
+
+abbrev pub is_new_index_name : List IndexShape → List ℕ → Bool
+is_new_index_name indexes name = is_file_name name && not (is_index_named indexes name)
 
 -- ---- fields of a table's file
 
@@ -57,28 +79,53 @@ pub record HasFields (holds : Option (List ℕ) → Type 0) (fields : List Field
 
 -- ---- what lines declare
 
--- a table of that name, with the fields of the file of that name
+-- a table of that name, with the fields of the file of that name, that can be declared next
 pub record DeclaresTable (holds : Holds) (name : List ℕ) (before after : Shape) : Type 0 where
   pub table : TableShape
   pub named : table.name.items ≡ name
   pub file : HasFields (holds (file_name name)) table.fields
+  pub next : is_next_table before.tables table ≡ true
+  pub room : length before.tables < 32
   pub added : after ≡ with_declared_table before table
 
--- the table of that number has that name and those fields
+-- the table of that number is the first of that name, and has those fields
 pub record NamesTable (tables : List TableShape) (number : ℕ) (name : List ℕ) (fields : List Field) : Type 0 where
   pub of : TableShape
   pub there : slice_get tables number ≡ Some of
   pub named : of.name.items ≡ name
   pub fields_are : of.fields ≡ fields
+  pub first : is_table_named (take number tables) name ≡ false
 
 -- an index of that name, of the declared table of that name, whose key is spelled so
-pub record DeclaresIndex (name table key : List ℕ) (before after : Shape) : Type 0 where
-  pub index : IndexShape
+pub record SaysIndex (before : Shape) (name table key : List ℕ) (index : IndexShape) : Type 0 where
   pub fields : List Field
   pub named : index.name.items ≡ name
   pub owner : NamesTable before.tables index.table table fields
   pub spelled : SpellsKey fields key index.key
+
+-- one that can be declared next
+pub record DeclaresIndex (name table key : List ℕ) (before after : Shape) : Type 0 where
+  pub index : IndexShape
+  pub says : SaysIndex before name table key index
+  pub next : is_next_index before.tables before.indexes index ≡ true
+  pub room : length before.indexes < 64
   pub added : after ≡ with_index before index
+
+-- over the fields of the declared table of that name the text spells no key
+pub record SpellsNone (before : Shape) (table key : List ℕ) : Type 0 where
+  pub number : ℕ
+  pub fields : List Field
+  pub owner : NamesTable before.tables number table fields
+  pub none : SpellsNoKey fields key
+
+-- an index of that name, of the declared table of that name, whose key is spelled so, can't be declared
+pub record IsUnfitIndex (before : Shape) (name table key : List ℕ) : Type 0 where
+  pub index : IndexShape
+  pub says : SaysIndex before name table key index
+  pub unfit : is_next_index before.tables before.indexes index ≡ false
+
+abbrev pub IsFaultyKey : Shape → List ℕ → List ℕ → List ℕ → Type 0
+IsFaultyKey before name table key = SpellsNone before table key ⊎ IsUnfitIndex before name table key
 
 abbrev pub LineDeclares : Holds → Said → Shape → Shape → Type 0
 LineDeclares holds Nothing before after = after ≡ before

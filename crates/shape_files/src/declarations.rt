@@ -1,10 +1,14 @@
 //! What is declared by the lines so far.
 
-ghost use Rattle.std.specs.Prelude.{◌≡◌, ◌<◌, ℕ, List, true, length, IfErr, IfSome, OnErr, OnOk};
+ghost use Rattle.std.specs.Prelude.{◌≡◌, ◌<◌, ◌≤◌, ◌⊎◌, true, false, length, take, IfErr, MatchOption, OnErr, OnOk};
+ghost use Rattle.shape.specs.Indexes.{is_next_index};
+ghost use Rattle.shape.specs.Tables.{is_next_table};
 ghost use Rattle.shape.specs.Whole.{is_shape};
-ghost use Rattle.shape_files.specs.Lines.{Index, Table};
-ghost use Rattle.shape_files.specs.Refusals.{LineRefusalIs};
-ghost use Rattle.shape_files.specs.Shapes.{NamesTable, no_shape, shape_of, with_index, with_declared_table};
+ghost use Rattle.shape_files.specs.declared.refusal.LineFault.TheVariants as fault;
+ghost use Rattle.shape_files.specs.declared.refusal.LineRefusal.TheVariants as line;
+ghost use Rattle.shape_files.specs.Shapes.{NamesTable, is_index_named as is_index_named_of, is_new_index_name};
+ghost use Rattle.shape_files.specs.Shapes.{is_new_table_name, is_table_named as is_table_named_of, no_shape, shape_of};
+ghost use Rattle.shape_files.specs.Shapes.{with_index, with_declared_table};
 
 use crate::names::{as_byte, is_word, name_in};
 use crate::refusal::{LineFault, LineRefusal};
@@ -25,10 +29,11 @@ pub struct Declarations {
     pub indexes: Vec<IndexShape>,
 }
 
-/// The table of that name: its number and its fields.
+/// The first table of that name: its number, up to 255, and its fields.
 #[tactic(auto, using(std::proofs::lemmas::Option::slice_get_read))]
 fn table_of<'t>(tables: &'t [TableShape], name: &[u8]) -> Option<(u8, &'t [Field])>
-    ensures { IfSome result (λ x. NamesTable tables.now x.0 name.now x.1.now) }
+    ensures { MatchOption result (is_table_named_of (take 256 tables.now) name.now ≡ false)
+        (λ x. NamesTable tables.now x.0 name.now x.1.now) }
 {
     for (t, table) in tables.iter().enumerate() {
         if is_word(&table.name, name) {
@@ -37,6 +42,20 @@ fn table_of<'t>(tables: &'t [TableShape], name: &[u8]) -> Option<(u8, &'t [Field
         }
     }
     None
+}
+
+/// Whether one of these tables has the name.
+fn is_table_named(tables: &[TableShape], name: &[u8]) -> bool
+    ensures { result ≡ is_table_named_of tables.now name.now }
+{
+    tables.iter().any(|table| is_word(&table.name, name))
+}
+
+/// Whether one of these indexes has the name.
+fn is_index_named(indexes: &[IndexShape], name: &[u8]) -> bool
+    ensures { result ≡ is_index_named_of indexes.now name.now }
+{
+    indexes.iter().any(|index| is_word(&index.name, name))
 }
 
 impl Declarations {
@@ -50,18 +69,20 @@ impl Declarations {
         }
     }
 
-    /// The table of that name: its number and its fields.
+    /// The first table of that name: its number, up to 255, and its fields.
     pub fn table(&self, name: &[u8]) -> Option<(u8, &[Field])>
-        ensures { IfSome result (λ x. NamesTable self.now.tables.items x.0 name.now x.1.now) }
+        ensures { MatchOption result (is_table_named_of (take 256 self.now.tables.items) name.now ≡ false)
+            (λ x. NamesTable self.now.tables.items x.0 name.now x.1.now) }
     {
         table_of(self.tables.as_slice(), name)
     }
 
     /// The name that a word is, if a further table can have it.
     pub fn table_name(&self, word: &[u8]) -> Option<Name>
-        ensures { IfSome result (λ name. name.items ≡ word.now) }
+        ensures { MatchOption result (is_new_table_name self.now.tables.items word.now ≡ false)
+            (λ name. (name.items ≡ word.now) × (is_new_table_name self.now.tables.items word.now ≡ true)) }
     {
-        if self.tables.iter().any(|table| is_word(&table.name, word)) {
+        if is_table_named(self.tables.as_slice(), word) {
             return None;
         }
         name_in(word)
@@ -69,9 +90,10 @@ impl Declarations {
 
     /// The name that a word is, if a further index can have it.
     pub fn index_name(&self, word: &[u8]) -> Option<Name>
-        ensures { IfSome result (λ name. name.items ≡ word.now) }
+        ensures { MatchOption result (is_new_index_name self.now.indexes.items word.now ≡ false)
+            (λ name. (name.items ≡ word.now) × (is_new_index_name self.now.indexes.items word.now ≡ true)) }
     {
-        if self.indexes.iter().any(|index| is_word(&index.name, word)) {
+        if is_index_named(self.indexes.as_slice(), word) {
             return None;
         }
         name_in(word)
@@ -82,8 +104,9 @@ impl Declarations {
         requires { length self.old.tables.items < 32 }
         ensures added { OnOk result (shape_of self.new ≡ with_declared_table (shape_of self.old) table) }
         ensures legal { is_shape (shape_of self.old) ≡ true → OnOk result (is_shape (shape_of self.new) ≡ true) }
-        ensures refused { (says : List ℕ) (before after : ℕ)
-            → IfErr result (LineRefusalIs (shape_of self.old) (Table says) before after) }
+        ensures next { OnOk result (is_next_table self.old.tables.items table ≡ true) }
+        ensures refused { IfErr result (λ why. (why ≡ line.Memory)
+            ⊎ ((why ≡ line.Fault fault.Table) × (is_next_table self.old.tables.items table ≡ false))) }
         ensures kept { OnErr result (shape_of self.new ≡ shape_of self.old) }
     {
         if !table.is_next(self.tables.as_slice()) {
@@ -98,8 +121,13 @@ impl Declarations {
     pub fn add_index(&mut self, index: IndexShape) -> Result<(), LineRefusal>
         ensures added { OnOk result (shape_of self.new ≡ with_index (shape_of self.old) index) }
         ensures legal { is_shape (shape_of self.old) ≡ true → OnOk result (is_shape (shape_of self.new) ≡ true) }
-        ensures refused { (name of says : List ℕ) (before after : ℕ)
-            → IfErr result (LineRefusalIs (shape_of self.old) (Index name of says) before after) }
+        ensures next { OnOk result (is_next_index self.old.tables.items self.old.indexes.items index ≡ true) }
+        ensures room { OnOk result (length self.old.indexes.items < 64) }
+        ensures refused { IfErr result (λ why. (why ≡ line.Memory)
+            ⊎ ((why ≡ line.Fault fault.Key)
+            × (is_next_index self.old.tables.items self.old.indexes.items index ≡ false))
+            ⊎ ((why ≡ line.Fault fault.Limit) × (64 ≤ length self.old.indexes.items)
+            × (is_next_index self.old.tables.items self.old.indexes.items index ≡ true))) }
         ensures kept { OnErr result (shape_of self.new ≡ shape_of self.old) }
     {
         if !index.is_next(self.tables.as_slice(), self.indexes.as_slice()) {

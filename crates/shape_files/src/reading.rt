@@ -4,9 +4,9 @@ ghost use Rattle.std.specs.Prelude.{◌≡◌, ◌≤◌, ℕ, true, Some, lengt
 ghost use Rattle.file_access.specs.Holding.{SameFiles};
 ghost use Rattle.shape.specs.Whole.{is_shape};
 ghost use Rattle.text_lines.specs.Lines.{lines};
-ghost use Rattle.shape_files.specs.Lines.{Index as IndexSaid, Table as TableSaid, said_in_line};
+ghost use Rattle.shape_files.specs.Lines.{Table as TableSaid, said_in_line};
 ghost use Rattle.shape_files.specs.Listing.{IsNoLine};
-ghost use Rattle.shape_files.specs.Refusals.{AtLineIs, LineRefusalIs, LinesRefusalIs, ShapeRefusalIs};
+ghost use Rattle.shape_files.specs.Refusals.{AtLineIs, IndexRefusalIs, LineRefusalIs, LinesRefusalIs, ShapeRefusalIs};
 ghost use Rattle.shape_files.specs.Shapes.{Declare, LineDeclares, DeclaresIndex, IsDeclared, no_shape, shape_of};
 
 use crate::declarations::{Declarations, MOST_TABLES};
@@ -30,8 +30,8 @@ fn declare_table<F: Files>(
         (shape_of declarations.new)) }
     ensures legal { is_shape (shape_of declarations.old) ≡ true
         → OnOk result (is_shape (shape_of declarations.new) ≡ true) }
-    ensures refused { IfErr result (LineRefusalIs (shape_of declarations.old) (TableSaid word.now) (F.failed files.old)
-        (F.failed files.new)) }
+    ensures refused { IfErr result (LineRefusalIs (F.holds files.old) (shape_of declarations.old) (TableSaid word.now)
+        (F.failed files.old) (F.failed files.new)) }
     ensures same { OnErr result (shape_of declarations.new ≡ shape_of declarations.old) }
     ensures counted { F.failed files.old ≤ F.failed files.new }
     ensures kept { SameFiles (F.holds files.old) (F.holds files.new) }
@@ -63,8 +63,7 @@ fn declare_index(
         (shape_of declarations.new)) }
     ensures legal { is_shape (shape_of declarations.old) ≡ true
         → OnOk result (is_shape (shape_of declarations.new) ≡ true) }
-    ensures refused { (before after : ℕ)
-        → IfErr result (LineRefusalIs (shape_of declarations.old) (IndexSaid word.now of.now text.now) before after) }
+    ensures refused { IfErr result (IndexRefusalIs (shape_of declarations.old) word.now of.now text.now) }
     ensures same { OnErr result (shape_of declarations.new ≡ shape_of declarations.old) }
 {
     let Some(name) = declarations.index_name(word) else {
@@ -91,7 +90,7 @@ pub(crate) fn declare<F: Files>(
     ensures legal { is_shape (shape_of declarations.old) ≡ true
         → OnOk result (is_shape (shape_of declarations.new) ≡ true) }
     ensures refused { IfErr result
-        (LineRefusalIs (shape_of declarations.old) (said_in_line text.now) (F.failed files.old)
+        (LineRefusalIs (F.holds files.old) (shape_of declarations.old) (said_in_line text.now) (F.failed files.old)
         (F.failed files.new)) }
     ensures same { OnErr result (shape_of declarations.new ≡ shape_of declarations.old) }
     ensures counted { F.failed files.old ≤ F.failed files.new }
@@ -124,7 +123,7 @@ fn declare_at<F: Files>(
     ensures legal { is_shape (shape_of declarations.old) ≡ true
         → OnOk result (is_shape (shape_of declarations.new) ≡ true) }
     ensures refused { IfErr result
-        (AtLineIs line (shape_of declarations.old) (said_in_line text.now) (F.failed files.old)
+        (AtLineIs (F.holds files.old) line (shape_of declarations.old) (said_in_line text.now) (F.failed files.old)
         (F.failed files.new)) }
     ensures counted { F.failed files.old ≤ F.failed files.new }
     ensures kept { SameFiles (F.holds files.old) (F.holds files.new) }

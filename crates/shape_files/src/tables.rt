@@ -1,10 +1,10 @@
 //! Fields of declared tables, from their files.
 
-ghost use Rattle.std.specs.Prelude.{◌≡◌, ◌≤◌, ℕ, List, Some, length, map, IfErr, IfOk};
+ghost use Rattle.std.specs.Prelude.{◌≡◌, ◌≤◌, ◌⊎◌, Some, length, map, IfErr, IfOk};
 ghost use Rattle.file_access.specs.Holding.{SameFiles};
-ghost use Rattle.shape.specs.declared.whole.Shape.{Shape as AnyShape};
-ghost use Rattle.shape_files.specs.Lines.{Table};
-ghost use Rattle.shape_files.specs.Refusals.{LineRefusalIs};
+ghost use Rattle.shape_files.specs.declared.refusal.LineFault.TheVariants as fault;
+ghost use Rattle.shape_files.specs.declared.refusal.LineRefusal.TheVariants as line;
+ghost use Rattle.shape_files.specs.Refusals.{FieldsRefusalIs, HoldsNoTable};
 ghost use Rattle.shape_files.specs.Shapes.{HasFields, IsTableWithFields, file_name, in_capitals, plain_field};
 
 use crate::names::file_of;
@@ -44,8 +44,8 @@ pub fn capital_fields(alloc: Global, fields: &[Field]) -> Result<Vec<Field>, All
 fn table_bytes<F: Files>(alloc: Global, files: &mut F, name: &[u8]) -> Result<Vec<u8>, LineRefusal>
     ensures held { IfOk result (λ bytes. F.holds files.old (file_name name.now) (Some bytes.items)) }
     ensures short { IfOk result (λ bytes. length bytes.items ≤ 67108864) }
-    ensures refused { (s : AnyShape) (says : List ℕ)
-        → IfErr result (LineRefusalIs s (Table says) (F.failed files.old) (F.failed files.new)) }
+    ensures refused { IfErr result (FieldsRefusalIs (F.holds files.old) name.now (F.failed files.old)
+        (F.failed files.new)) }
     ensures counted { F.failed files.old ≤ F.failed files.new }
     ensures kept { SameFiles (F.holds files.old) (F.holds files.new) }
 {
@@ -64,13 +64,15 @@ fn table_bytes<F: Files>(alloc: Global, files: &mut F, name: &[u8]) -> Result<Ve
 /// The fields of the table in a file, with their names in capitals.
 fn fields_in(alloc: Global, bytes: &[u8]) -> Result<Vec<Field>, LineRefusal>
     ensures fields { IfOk result (λ fields. IsTableWithFields bytes.now fields.items) }
-    ensures refused { (s : AnyShape) (says : List ℕ) (before after : ℕ)
-        → IfErr result (LineRefusalIs s (Table says) before after) }
+    ensures refused { IfErr result (λ why. (why ≡ line.Memory)
+        ⊎ ((why ≡ line.Fault fault.Table) × HoldsNoTable bytes.now)) }
 {
     match read(alloc, bytes, MOST_ROWS) {
         Ok(table) => Ok(capital_fields(alloc, table.structure().fields())?),
-        Err(DbfFault::Memory) => Err(LineRefusal::Memory),
-        Err(_) => Err(LineRefusal::Fault(LineFault::Table)),
+        Err(fault) => match fault {
+            DbfFault::Memory => Err(LineRefusal::Memory),
+            _ => Err(LineRefusal::Fault(LineFault::Table)),
+        },
     }
 }
 
@@ -81,8 +83,8 @@ pub fn read_fields<F: Files>(
     name: &[u8],
 ) -> Result<Vec<Field>, LineRefusal>
     ensures fields { IfOk result (λ fields. HasFields (F.holds files.old (file_name name.now)) fields.items) }
-    ensures refused { (s : AnyShape) (says : List ℕ)
-        → IfErr result (LineRefusalIs s (Table says) (F.failed files.old) (F.failed files.new)) }
+    ensures refused { IfErr result (FieldsRefusalIs (F.holds files.old) name.now (F.failed files.old)
+        (F.failed files.new)) }
     ensures counted { F.failed files.old ≤ F.failed files.new }
     ensures kept { SameFiles (F.holds files.old) (F.holds files.new) }
 {

@@ -16,6 +16,7 @@ invariant-loop-turned g l = record {
   counted : l.used ≡ length (g.J.Journal.holds l.journal);
   kept : AnswersKept (g.O.Operator.answered l.fn.operator) (g.O.Operator.answered l.operator)
       (g.J.Journal.holds l.fn.journal) (g.J.Journal.holds l.journal);
+  unfailed : g.J.Journal.failed l.journal ≡ g.J.Journal.failed l.fn.journal;
 }
 
 abbrev pub decreases-loop-turned : goal.decreases-loop-turned

@@ -50,12 +50,14 @@ pub returns-in_err-declare_at-clause-refused : goal.returns-in_err-declare_at-cl
 returns-in_err-declare_at-clause-refused g c =
     let p = err_from_is_err_and c.from_residual.result c.from_residual.ensures.1 in
     let i = c.loop-rest.invariant in
+    let first = g.F.Files.holds c.args.files.now in
+    let now = g.F.Files.holds c.loop-rest.files in
     rw (p.1, p.2)
-    (line_told c.in_err-declare_at.field-0.0 (g.F.Files.holds c.args.files.now) (lines c.args.bytes.now)
-    (lines c.loop-rest.rest.now) (lines c.first_line.result.1.now) c.first_line.result.0.now c.loop-rest.line
-    (shape_of c.loop-rest.declarations)
+    (line_told c.in_err-declare_at.field-0.0 first now (lines c.args.bytes.now) (lines c.loop-rest.rest.now)
+    (lines c.first_line.result.1.now) c.first_line.result.0.now c.loop-rest.line (shape_of c.loop-rest.declarations)
     (g.F.Files.failed c.args.files.now) (g.F.Files.failed c.loop-rest.files) (g.F.Files.failed c.declare_at.new.files)
-    c.first_line.ensures.first i.passed i.counted c.declare_at.ensures.counted c.in_err-declare_at.ensures.refused)
+    c.first_line.ensures.first i.kept i.passed i.counted c.declare_at.ensures.counted
+    c.in_err-declare_at.ensures.refused)
 
 pub returns-in_err-declare_at-clause-counted : goal.returns-in_err-declare_at-clause-counted
 returns-in_err-declare_at-clause-counted g c =
