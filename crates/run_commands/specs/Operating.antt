@@ -2,6 +2,7 @@
 use Rattle.std.specs.Prelude.{◌≡◌, ℕ, List, [], ⊤, Result, Ok, Err}
 use Rattle.code_items.specs.declared.code.Code.{Code}
 use Rattle.file_access.specs.Holding.{Holds, SameFiles}
+use Rattle.operating.specs.Answers.{BrokeOff}
 use Rattle.run_commands.specs.declared.ending.Ended.{Ended}
 use Rattle.run_commands.specs.declared.job.Job.{Job}
 use Rattle.run_commands.specs.declared.conversation.OperateRefusal.{OperateRefusal}
@@ -42,3 +43,10 @@ IfOfRun says Handed = ⊤
 abbrev pub SameResult : Result Ended RunRefusal → Result Ended OperateRefusal → Type 0
 SameResult (Ok ended) told = told ≡ Ok ended
 SameResult (Err refusal) told = told ≡ Err (Run refusal)
+
+-- how often the journal failed before and after a conversation that was refused: more often where the journal is why,
+-- and else as often
+abbrev pub OperationBroke : ℕ → ℕ → OperateRefusal → Type 0
+OperationBroke before after (Run refusal) = after ≡ before
+OperationBroke before after (Broke why) = BrokeOff before after why
+OperationBroke before after Handed = after ≡ before

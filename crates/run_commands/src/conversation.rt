@@ -6,7 +6,8 @@ ghost use Rattle.file_access.specs.Holding.{Rose, SameFiles};
 ghost use Rattle.operating.specs.Answers.{AnswersKept, LastUnkept};
 ghost use Rattle.run_commands.specs.declared.job.Job.{Job as AnyJob};
 ghost use Rattle.run_commands.specs.declared.refusal.RunRefusal.TheVariants.{Memory};
-ghost use Rattle.run_commands.specs.Operating.{IfOfRun, IsWith, OperationRefused, SameResult, SoundOver};
+ghost use Rattle.run_commands.specs.Operating.{IfOfRun, IsWith, OperationBroke, OperationRefused, SameResult};
+ghost use Rattle.run_commands.specs.Operating.{SoundOver};
 ghost use Rattle.run_steps.specs.Shapes.{StoreFits};
 ghost use Rattle.run_commands.specs.Parts.{CodeStopped, CodeRefused, IsOfTables, Stopped};
 ghost use Rattle.run_commands.specs.Reports.{CodeRan, HasRun, IsSavedRun, RefusedBefore, SavingStopped};
@@ -115,6 +116,8 @@ pub(crate) fn operate_accepted<J: Journal, O: Operator>(
         (J.holds journal.old) (J.holds journal.new)) }
     ensures unkept { OnErr result (LastUnkept (O.answered operator.old) (O.answered operator.new)
         (J.holds journal.old) (J.holds journal.new)) }
+    ensures unfailed { OnOk result (J.failed journal.new ≡ J.failed journal.old) }
+    ensures broke { IfErr result (OperationBroke (J.failed journal.old) (J.failed journal.new)) }
 {
     let day = job.day.day();
     let talk = converse(
@@ -159,6 +162,8 @@ fn full_operation<F: Files, J: Journal, O: Operator>(
         (J.holds journal.old) (J.holds journal.new)) }
     ensures unkept { OnErr result (LastUnkept (O.answered operator.old) (O.answered operator.new)
         (J.holds journal.old) (J.holds journal.new)) }
+    ensures unfailed { OnOk result (J.failed journal.new ≡ J.failed journal.old) }
+    ensures broke { IfErr result (OperationBroke (J.failed journal.old) (J.failed journal.new)) }
 {
     legal_codes();
     new_stores_fit();
@@ -198,6 +203,8 @@ fn operate_code<F: Files, J: Journal, O: Operator>(
         (J.holds journal.old) (J.holds journal.new)) }
     ensures unkept { OnErr result (LastUnkept (O.answered operator.old) (O.answered operator.new)
         (J.holds journal.old) (J.holds journal.new)) }
+    ensures unfailed { OnOk result (J.failed journal.new ≡ J.failed journal.old) }
+    ensures broke { IfErr result (OperationBroke (J.failed journal.old) (J.failed journal.new)) }
 {
     let verified = accept(alloc, code)?;
     full_operation(alloc, files, &verified, job, most, journal, operator)
@@ -231,6 +238,8 @@ fn operate_read<F: Files, J: Journal, O: Operator>(
         (J.holds journal.old) (J.holds journal.new)) }
     ensures unkept { OnErr result (LastUnkept (O.answered operator.old) (O.answered operator.new)
         (J.holds journal.old) (J.holds journal.new)) }
+    ensures unfailed { OnOk result (J.failed journal.new ≡ J.failed journal.old) }
+    ensures broke { IfErr result (OperationBroke (J.failed journal.old) (J.failed journal.new)) }
 {
     match read_code(alloc, files, job.name) {
         Ok(code) => operate_code(alloc, files, code, job, most, journal, operator),
@@ -253,8 +262,9 @@ fn told(run: Result<Ended, RunRefusal>) -> Result<Ended, OperateRefusal>
 /// which are the job's input, and goes on with those that the operator answers. Each of these is kept in the journal
 /// before the run sees it. Behind the end of the input each further line is empty. What is printed and saved is what
 /// `run_files` prints and saves for the same job with what the journal holds then as its input. Where the operator or
-/// the journal fails, or a line isn't one, nothing is printed or saved. All lines together have at most `most` bytes,
-/// each with its end: where a line would pass that, the end of the input alone is left to answer.
+/// the journal fails, or a line isn't one, nothing is printed or saved. The journal is why a conversation broke off
+/// only where it failed, and counted that. All lines together have at most `most` bytes, each with its end: where a
+/// line would pass that, the end of the input alone is left to answer.
 pub fn operate_files<F: Files, J: Journal, O: Operator>(
     alloc: Global,
     files: &mut F,
@@ -280,6 +290,8 @@ pub fn operate_files<F: Files, J: Journal, O: Operator>(
         (J.holds journal.old) (J.holds journal.new)) }
     ensures unkept { OnErr result.result (LastUnkept (O.answered operator.old) (O.answered operator.new)
         (J.holds journal.old) (J.holds journal.new)) }
+    ensures unfailed { OnOk result.result (J.failed journal.new ≡ J.failed journal.old) }
+    ensures broke { IfErr result.result (OperationBroke (J.failed journal.old) (J.failed journal.new)) }
 {
     if !can_go_on(job.input, most) {
         return OperationReport {

@@ -6,7 +6,7 @@ ghost use Rattle.file_access.specs.Holding.{Rose, SameFiles};
 ghost use Rattle.file_commands.specs.Reports.{HasCode};
 ghost use Rattle.operating.specs.Answers.{AnswersKept, LastUnkept};
 ghost use Rattle.run_commands.specs.declared.job.Job.{Job as AnyJob};
-ghost use Rattle.run_commands.specs.Operating.{IfOfRun, IsWith};
+ghost use Rattle.run_commands.specs.Operating.{IfOfRun, IsWith, OperationBroke};
 ghost use Rattle.run_commands.specs.Parts.{CodeRefused, IsOfTables};
 ghost use Rattle.run_commands.specs.Rehearsals.{IsRehearsed, LeavesTables};
 ghost use Rattle.run_commands.specs.Reports.{RefusedBefore};
@@ -53,6 +53,8 @@ fn compare_talk<F: Files, J: Journal, O: Operator>(
         (J.holds journal.old) (J.holds journal.new)) }
     ensures unkept { OnErr result (LastUnkept (O.answered operator.old) (O.answered operator.new)
         (J.holds journal.old) (J.holds journal.new)) }
+    ensures unfailed { OnOk result (J.failed journal.new ≡ J.failed journal.old) }
+    ensures broke { IfErr result (OperationBroke (J.failed journal.old) (J.failed journal.new)) }
 {
     legal_codes();
     new_stores_fit();
@@ -89,6 +91,8 @@ fn rehearse_accepted_talk<F: Files, J: Journal, O: Operator>(
         (J.holds journal.old) (J.holds journal.new)) }
     ensures unkept { OnErr result (LastUnkept (O.answered operator.old) (O.answered operator.new)
         (J.holds journal.old) (J.holds journal.new)) }
+    ensures unfailed { OnOk result (J.failed journal.new ≡ J.failed journal.old) }
+    ensures broke { IfErr result (OperationBroke (J.failed journal.old) (J.failed journal.new)) }
 {
     let shape = &verified.code().declared.shape;
     let done = compare_talk(alloc, files, verified, job, most, journal, operator)?;
@@ -123,6 +127,8 @@ fn rehearse_code_talk<F: Files, J: Journal, O: Operator>(
         (J.holds journal.old) (J.holds journal.new)) }
     ensures unkept { OnErr result (LastUnkept (O.answered operator.old) (O.answered operator.new)
         (J.holds journal.old) (J.holds journal.new)) }
+    ensures unfailed { OnOk result (J.failed journal.new ≡ J.failed journal.old) }
+    ensures broke { IfErr result (OperationBroke (J.failed journal.old) (J.failed journal.new)) }
 {
     let verified = accept(alloc, code)?;
     rehearse_accepted_talk(alloc, files, &verified, job, most, journal, operator)
@@ -158,6 +164,8 @@ pub fn rehearse_talk<F: Files, J: Journal, O: Operator>(
         (J.holds journal.old) (J.holds journal.new)) }
     ensures unkept { OnErr result (LastUnkept (O.answered operator.old) (O.answered operator.new)
         (J.holds journal.old) (J.holds journal.new)) }
+    ensures unfailed { OnOk result (J.failed journal.new ≡ J.failed journal.old) }
+    ensures broke { IfErr result (OperationBroke (J.failed journal.old) (J.failed journal.new)) }
 {
     if !can_go_on(job.input, most) {
         return Err(OperateRefusal::Handed);
