@@ -115,14 +115,16 @@ pub trait Values: Drop {
         requires { register < length (registers self.old).numbers }
         ensures stands { (t : TaggedValues) → stands self.old t → stands self.new t }
         ensures registers { registers self.new ≡ record (registers self.old) {
-            numbers = slice_set (registers self.old).numbers register number } };
+          numbers = slice_set (registers self.old).numbers register number;
+        } };
 
     /// Puts a truth value into a register, which is there.
     fn set_truth_register(&mut self, register: usize, truth: bool)
         requires { register < length (registers self.old).truths }
         ensures stands { (t : TaggedValues) → stands self.old t → stands self.new t }
         ensures registers { registers self.new ≡ record (registers self.old) {
-            truths = slice_set (registers self.old).truths register truth } };
+          truths = slice_set (registers self.old).truths register truth;
+        } };
 
     /// Makes the registers those for a run with these constants; whether it could. This call alone takes memory.
     fn lay(&mut self, constants: &[Value]) -> bool

@@ -9,7 +9,8 @@ use Rattle.run_values.proofs.calling.part_of_text.Goals as goal
 pub returns-in-Trim-clause-given : goal.returns-in-Trim-clause-given
 unfolding applied
 returns-in-Trim-clause-given c = λ settings.
-    subst (λ (f : Fun). IsGiven f settings (Text (record { items = c.args.text.now }) ∷ []) (Text (record { items = c.without_last_blanks.result.now }))) (sym c.in-Trim.is)
+    subst (λ (f : Fun). IsGiven f settings (Text (record { items = c.args.text.now }) ∷ []) (Text (record
+    { items = c.without_last_blanks.result.now }))) (sym c.in-Trim.is)
     (record {
       many = refl;
       same = short_part _ _ c.without_last_blanks.ensures.same
@@ -19,7 +20,8 @@ returns-in-Trim-clause-given c = λ settings.
 pub returns-in-Ltrim-clause-given : goal.returns-in-Ltrim-clause-given
 unfolding applied
 returns-in-Ltrim-clause-given c = λ settings.
-    subst (λ (f : Fun). IsGiven f settings (Text (record { items = c.args.text.now }) ∷ []) (Text (record { items = c.without_blanks.result.now }))) (sym c.in-Ltrim.is)
+    subst (λ (f : Fun). IsGiven f settings (Text (record { items = c.args.text.now }) ∷ []) (Text (record
+    { items = c.without_blanks.result.now }))) (sym c.in-Ltrim.is)
     (record {
       many = refl;
       same = short_part _ _ c.without_blanks.ensures.same

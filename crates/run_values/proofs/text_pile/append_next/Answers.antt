@@ -16,9 +16,14 @@ returns-clause-appended c first second there next =
     let one = c.index-front-place.result in
     let other = c.index-behind-0.result in
     let lower : get_or front place one ≡ first =
-    ap (λ l. get_or l place one) split.ensures.front ∙ get_or-take (place + 1) texts place one (omega arith) ∙ get_or_from_slice_get texts place first one there in
+    ap (λ l. get_or l place one) split.ensures.front ∙ get_or-take (place + 1) texts place one (omega arith)
+    ∙ get_or_from_slice_get texts place first one there in
     let upper : get_or behind 0 other ≡ second =
-    ap (λ l. get_or l 0 other) split.ensures.back ∙ get_or-drop (place + 1) texts 0 other ∙ ap (λ n. get_or texts n other) (omega arith) ∙ get_or_from_slice_get texts (place + 1) second other next in
+    ap (λ l. get_or l 0 other) split.ensures.back ∙ get_or-drop (place + 1) texts 0 other
+    ∙ ap (λ n. get_or texts n other) (omega arith) ∙ get_or_from_slice_get texts (place + 1) second other next in
     let items : c.append.new.text.items ≡ fitting (first.items ++ second.items) =
-    c.append.ensures ∙ ap (λ t. fitting (t.items ++ c.as_slice.result.now)) lower ∙ ap (λ bytes. fitting (first.items ++ bytes)) (c.as_slice.ensures.value ∙ ap (λ t. t.items) upper) in
-    sym (set-append_left front behind place c.append.new.text inside) ∙ ap (λ l. slice_set l place c.append.new.text) (sym split.ensures.value) ∙ ap (λ bytes. slice_set texts place (record { items = bytes })) items
+    c.append.ensures ∙ ap (λ t. fitting (t.items ++ c.as_slice.result.now)) lower
+    ∙ ap (λ bytes. fitting (first.items ++ bytes)) (c.as_slice.ensures.value ∙ ap (λ t. t.items) upper) in
+    sym (set-append_left front behind place c.append.new.text inside)
+    ∙ ap (λ l. slice_set l place c.append.new.text) (sym split.ensures.value)
+    ∙ ap (λ bytes. slice_set texts place (record { items = bytes })) items

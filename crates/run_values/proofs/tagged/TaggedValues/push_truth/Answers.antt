@@ -6,9 +6,11 @@ pub invariant_of-self : goal.invariant_of-self
 invariant_of-self c =
     let t = c.requires.0 in
     let k = given _ _ _ _ t c.self.view_is c.self.invariant c.requires.1.0 in
-    kept _ _ _ _ (one_more_kind _ _ _ _ _ t (Logical c.args.truth) k (c.push_truth.ensures.stands t k.stands) c.push.ensures)
+    kept _ _ _ _ (one_more_kind _ _ _ _ _ t (Logical c.args.truth) k
+    (c.push_truth.ensures.stands t k.stands) c.push.ensures)
 
 pub returns-clause-stands : goal.returns-clause-stands
 returns-clause-stands c = λ t s.
     let k = given _ _ _ _ t c.self.view_is c.self.invariant s in
-    stands_for _ _ _ _ (one_more_kind _ _ _ _ _ t (Logical c.args.truth) k (c.push_truth.ensures.stands t k.stands) c.push.ensures)
+    stands_for _ _ _ _ (one_more_kind _ _ _ _ _ t (Logical c.args.truth) k
+    (c.push_truth.ensures.stands t k.stands) c.push.ensures)
