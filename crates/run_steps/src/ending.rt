@@ -1,6 +1,7 @@
 //! How runs end.
 
-ghost use Rattle.std.specs.Prelude.{◌≡◌};
+ghost use Rattle.std.specs.Prelude.{◌≡◌, ◌<◌, ◌≤◌, ◌+◌};
+ghost use Rattle.run_steps.specs.declared.ending.End.TheVariants.{Finished as IsFinished, Spent as IsSpent};
 ghost use Rattle.run_steps.specs.Run.{stop_ending};
 
 use crate::fault::FaultKind;
@@ -48,5 +49,24 @@ impl Stop {
             Stop::Full(table) => End::Full(table),
             Stop::NoMemory => End::NoMemory,
         }
+    }
+}
+
+/// How a run ends whose next instruction finishes it, behind steps of this cost: spent, where nothing is left of the
+/// budget to pay for that instruction.
+pub(crate) fn finishing(steps: u64, budget: u64) -> Outcome
+    requires { steps ≤ budget }
+    ensures spent { budget ≤ steps → result ≡ record { end = IsSpent; steps = steps } }
+    ensures finished { steps < budget → result ≡ record { end = IsFinished; steps = steps + 1 } }
+{
+    if steps == budget {
+        return Outcome {
+            end: End::Spent,
+            steps,
+        };
+    }
+    Outcome {
+        end: End::Finished,
+        steps: steps + 1,
     }
 }

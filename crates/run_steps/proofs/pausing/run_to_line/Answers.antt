@@ -1,4 +1,5 @@
-use Rattle.std.proofs.Common.{◌≡◌, arith, ◌∙◌, sym, subst, Some, true}
+use Rattle.std.proofs.Common.{◌≡◌, ◌+◌, arith, ◌∙◌, sym, subst, ⊎_elim, Some, true}
+use Rattle.std.proofs.lemmas.Bool.{cases_lt}
 use Rattle.std.specs.Prelude.{slice_get}
 use Rattle.run_steps.specs.Blocks.{HasConstants}
 use Rattle.run_steps.proofs.Pauses.{begun, follows, blocks_on, onward, passed, dry_there, line_fits}
@@ -63,29 +64,24 @@ returns-then-wants_line g c = λ w t safe.
       ),
     )
 
-pub returns-then-steps-budget : goal.returns-then-steps-budget
-returns-then-steps-budget g c = λ w t safe.
-    let u = blocks_on c.args.marks.now _ w _ _ _ _ _ _ _ _ _ _ _ safe (c.loop-blocks.invariant.goes w t safe)
-    c.take_blocks-steps.ensures.leads c.loop-blocks.invariant.within c.take_blocks-steps.ensures.within in
-    let p = u.pauses in
-    let h = here _ w _ _ _ _ _ c.get-instr.result.now safe (follows _ w _ _ _ _ _ _ p) (found_there c.args.code.now
-    c.take_blocks-steps.new.machine.place c.get-instr.result.now c.get-instr.ensures) in
-    ends_unpaid c.args.marks.now _ w _ _ _ _ _ _ c.get-instr.result.now p
-    (passed c.args.marks.now _ w _ _ _ _ _ _ u (c.is_reached.ensures.unmarked c.if-is_reached.false)) h
-    (finishes_there _ w _ _ _ _ _ c.get-instr.result.now _ (follows _ w _ _ _ _ _ _ p) c.if-finishes.ensures)
-    c.if-steps-budget.true
-
 pub returns-then-finishes : goal.returns-then-finishes
 returns-then-finishes g c = λ w t safe.
+    let steps = c.loop-blocks.steps + c.take_blocks-steps.result in
     let u = blocks_on c.args.marks.now _ w _ _ _ _ _ _ _ _ _ _ _ safe (c.loop-blocks.invariant.goes w t safe)
     c.take_blocks-steps.ensures.leads c.loop-blocks.invariant.within c.take_blocks-steps.ensures.within in
     let p = u.pauses in
     let h = here _ w _ _ _ _ _ c.get-instr.result.now safe (follows _ w _ _ _ _ _ _ p) (found_there c.args.code.now
     c.take_blocks-steps.new.machine.place c.get-instr.result.now c.get-instr.ensures) in
-    ends_out c.args.marks.now _ w _ _ _ _ _ _ c.get-instr.result.now p
-    (passed c.args.marks.now _ w _ _ _ _ _ _ u (c.is_reached.ensures.unmarked c.if-is_reached.false)) h
-    (finishes_there _ w _ _ _ _ _ c.get-instr.result.now _ (follows _ w _ _ _ _ _ _ p) c.if-finishes.ensures) (omega
-    (arith, c.if-steps-budget.false, c.loop-blocks.invariant.within, c.take_blocks-steps.ensures.within))
+    let on = finishes_there _ w _ _ _ _ _ c.get-instr.result.now _ (follows _ w _ _ _ _ _ _ p) c.if-finishes.ensures in
+    let by = passed c.args.marks.now _ w _ _ _ _ _ _ u (c.is_reached.ensures.unmarked c.if-is_reached.false) in
+    ⊎_elim
+    (λ lt. rw (c.finishing.ensures.finished lt) (ends_out c.args.marks.now _ w _ _ _ _ _ _ c.get-instr.result.now p by
+    h on lt))
+    (λ le.
+    let all : steps ≡ c.args.budget =
+    omega (arith, le, c.loop-blocks.invariant.within, c.take_blocks-steps.ensures.within) in
+    rw (c.finishing.ensures.spent le)
+    (ends_unpaid c.args.marks.now _ w _ _ _ _ _ _ c.get-instr.result.now p by h on all)) (cases_lt steps c.args.budget)
 
 pub execute-requires-clause-ready : goal.execute-requires-clause-ready
 execute-requires-clause-ready g c =
