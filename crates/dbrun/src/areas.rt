@@ -1,5 +1,4 @@
 //! The work areas of a refused command, named to a person at a terminal.
-#![tactic(auto)]
 
 use compile_commands::{CompileFilesRefusal, CompileWords, SourceFault, areas_where_refused};
 use file_access::Files;

@@ -1,5 +1,4 @@
-// All faults of a declaration file and of command files, listed.
-#![tactic(auto)]
+//! All faults of a declaration file and of command files, listed.
 
 use crate::shown::{Audience, PrintableLine, declared_line, line_among, line_of, lines_of};
 use crate::{folder, no_memory, settle, status_of, tell_uncompiled};

@@ -1,5 +1,4 @@
 //! `forget`: what a program that was ended has left is taken away.
-#![tactic(auto)]
 
 use crate::shown::{Audience, why_hindered};
 use crate::{folder_names, hindered, refuse, tell_unfinished};

@@ -1,5 +1,4 @@
 //! `operate`: a run in conversation, from its words to its end.
-#![tactic(auto)]
 
 ghost use Rattle.std.specs.Prelude.{◌≡◌, false};
 
@@ -651,6 +650,15 @@ fn hand_in_done<R: Runtime<A = Global, File = File>, L: Listener>(
     }
 }
 
+/// Tells how a run ended that saved its tables, or nothing. A person is told what to do.
+fn tell_end(rt: &impl Runtime, audience: Audience, ended: &Ended, saved: bool) -> Status {
+    let _ = eprintln!(rt; "{ended}");
+    if let Some(hint) = of_end(&ended.how, saved) {
+        advise(rt, audience, hint);
+    }
+    ended.status()
+}
+
 /// Writes the text of an end, and tells how a run ended that saved nothing.
 fn tell_unsaved_end<R: Runtime<A = Global, File = File>>(
     rt: &R,
@@ -660,13 +668,7 @@ fn tell_unsaved_end<R: Runtime<A = Global, File = File>>(
     ended: &Ended,
 ) -> Status {
     match write_done(rt, audience, open, journal, ended) {
-        None => {
-            let _ = eprintln!(rt; "{ended}");
-            if let (true, Some(hint)) = (audience.person, of_end(&ended.how, false)) {
-                let _ = eprintln!(rt; "  {hint}.");
-            }
-            ended.status()
-        }
+        None => tell_end(rt, audience, ended, false),
         Some(status) => status,
     }
 }
@@ -747,11 +749,7 @@ fn end_saved<'a, R: Runtime<A = Global, File = File>>(
         advise_unsaved(rt, audience, open, unsaved);
         return first_failed(printed, status);
     }
-    let _ = eprintln!(rt; "{ended}");
-    if let (true, Some(hint)) = (audience.person, of_end(&ended.how, true)) {
-        let _ = eprintln!(rt; "  {hint}.");
-    }
-    first_failed(printed, ended.status())
+    first_failed(printed, tell_end(rt, audience, ended, true))
 }
 
 /// Ends a conversation whose run came to its end.

@@ -1,5 +1,4 @@
 //! How far a long run has come, as a person at a terminal is told.
-#![tactic(auto)]
 
 use crate::shown::Audience;
 use file_access::Files;

@@ -1,5 +1,4 @@
 //! Runs whose screens are kept in a file.
-#![tactic(auto)]
 
 ghost use Rattle.std.specs.Prelude.{◌≡◌, [], false};
 
@@ -16,7 +15,7 @@ use run_commands::{
     Job, OperateRefusal, OperationReport, Rehearsal, Report, operate_files, rehearse_talk,
 };
 use save_rules::{is_in_folder, overwritten_by};
-use std::alloc::{AllocError, Global};
+use std::alloc::Global;
 use std::fs::File;
 use std::rt::Runtime;
 
@@ -62,17 +61,21 @@ pub fn may_show<R: Runtime<A = Global>>(rt: &R, words: &RunWords<'_>) -> Result<
     }
 }
 
-/// Who types a run's lines and writes the screens before them to a new file of this name. A person is told how far the
-/// run has come.
+/// Who types the lines of a job and writes the screens before them to a new file of this name. A person is told how far
+/// the run has come.
 fn typist_of<'a, R: Runtime<A = Global>>(
     rt: &'a R,
     audience: Audience,
-    text: &'a [u8],
+    job: &Job<'a>,
     name: &str,
-) -> Result<Typist<'a, R, Meter<'a, R>>, AllocError> {
-    let name = String::from_str(rt.alloc(), name)?;
-    let meter = Meter::new(rt, audience);
-    Ok(Typist::of(rt, text, Screens::to(Some(name)), meter))
+) -> Result<Typist<'a, R, Meter<'a, R>>, Status> {
+    match String::from_str(rt.alloc(), name) {
+        Ok(name) => {
+            let (screens, meter) = (Screens::to(Some(name)), Meter::new(rt, audience));
+            Ok(Typist::of(rt, job.input, screens, meter))
+        }
+        Err(_) => Err(refuse(rt, Refusal::Memory)),
+    }
 }
 
 /// The run of a job whose lines are still to be typed.
@@ -132,18 +135,10 @@ pub fn run_shown<R: Runtime<A = Global, File = File>, F: Files>(
     let Some(name) = screens else {
         return Ok(run_told(rt, audience, files, job));
     };
-    let Ok(mut typist) = typist_of(rt, audience, job.input, name) else {
-        return Err(refuse(rt, Refusal::Memory));
-    };
+    let mut typist = typist_of(rt, audience, job, name)?;
+    let job = untyped(job);
     let mut taken = TakenLines::new(alloc);
-    let told = operate_files(
-        alloc,
-        files,
-        &untyped(job),
-        MOST_GIVEN,
-        &mut taken,
-        &mut typist,
-    );
+    let told = operate_files(alloc, files, &job, MOST_GIVEN, &mut taken, &mut typist);
     typist.watcher().end();
     report_of(rt, name, told)
 }
@@ -178,18 +173,10 @@ pub fn rehearse_shown<R: Runtime<A = Global, File = File>, F: Files>(
             Err(refusal) => Err(tell_refusal(rt, job.name, &refusal)),
         };
     };
-    let Ok(mut typist) = typist_of(rt, audience, job.input, name) else {
-        return Err(refuse(rt, Refusal::Memory));
-    };
+    let mut typist = typist_of(rt, audience, job, name)?;
+    let job = untyped(job);
     let mut taken = TakenLines::new(alloc);
-    let told = rehearse_talk(
-        alloc,
-        files,
-        &untyped(job),
-        MOST_GIVEN,
-        &mut taken,
-        &mut typist,
-    );
+    let told = rehearse_talk(alloc, files, &job, MOST_GIVEN, &mut taken, &mut typist);
     typist.watcher().end();
     match told {
         Ok(told) => Ok(told),

@@ -1,5 +1,4 @@
-// What a person at a terminal is shown beside what the program says.
-#![tactic(auto)]
+//! What a person at a terminal is shown beside what the program says.
 
 use compile_commands::{CompileFilesRefusal, CompileWords, SourceFault};
 use file_access::Files;
