@@ -24,4 +24,4 @@ pub use pile::{Pile, STACK_LIMIT};
 pub use stacks::Stacks;
 pub use tagged::Tagged;
 pub use untagged::{SaidPlace, Untagged};
-pub use values::Values;
+pub use values::{Registered, Values};

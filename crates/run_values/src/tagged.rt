@@ -155,14 +155,6 @@ impl Values for Tagged {
         self.values.held_truth(source)
     }
 
-    fn set_number_register(&mut self, _register: usize, _number: Num) {}
-
-    fn set_truth_register(&mut self, _register: usize, _truth: bool) {}
-
-    fn lay(&mut self, _constants: &[Value]) -> bool {
-        false
-    }
-
     fn set_number(&mut self, slot: usize, number: Num) {
         self.values.set_number(slot, number);
         self.slots[slot] = Some(Kind::Number);

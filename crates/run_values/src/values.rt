@@ -14,7 +14,7 @@ use fixed_num::Num;
 use xvalue::{Fun, Kind, Settings, Value};
 
 /// Slots and a stack. Whether they keep the kinds of what they hold is theirs: they stand for values that have them,
-/// perhaps for many. No call but one takes memory.
+/// perhaps for many. No call takes memory.
 pub trait Values: Drop {
     ghost stands: { Self → TaggedValues → Type 0 };
 
@@ -110,27 +110,6 @@ pub trait Values: Drop {
         ensures { (t : TaggedValues) → stands self.now t → TruthThere source (sources_of t (registers self.now))
             → IsLogical result ≡ truth_of_operand source (sources_of t (registers self.now)) };
 
-    /// Puts a number into a register, which is there.
-    fn set_number_register(&mut self, register: usize, number: Num)
-        requires { register < length (registers self.old).numbers }
-        ensures stands { (t : TaggedValues) → stands self.old t → stands self.new t }
-        ensures registers { registers self.new ≡ record (registers self.old) {
-          numbers = slice_set (registers self.old).numbers register number;
-        } };
-
-    /// Puts a truth value into a register, which is there.
-    fn set_truth_register(&mut self, register: usize, truth: bool)
-        requires { register < length (registers self.old).truths }
-        ensures stands { (t : TaggedValues) → stands self.old t → stands self.new t }
-        ensures registers { registers self.new ≡ record (registers self.old) {
-          truths = slice_set (registers self.old).truths register truth;
-        } };
-
-    /// Makes the registers those for a run with these constants; whether it could. This call alone takes memory.
-    fn lay(&mut self, constants: &[Value]) -> bool
-        ensures stands { (t : TaggedValues) → stands self.old t → stands self.new t }
-        ensures laid { result ≡ true → HoldsConstants constants.now (registers self.new) };
-
     /// Puts a number into the slot, which is there.
     fn set_number(&mut self, slot: usize, number: Num)
         requires { (t : TaggedValues) × (stands self.old t × (slot < length t.slots)) }
@@ -165,4 +144,28 @@ pub trait Values: Drop {
         ensures stands { (t : TaggedValues) → stands self.old t → HasArguments fun t.stack
             → stands self.new (called fun settings t) }
         ensures registers { registers self.new ≡ registers self.old };
+}
+
+/// Values that blocks can use: their registers can be written.
+pub trait Registered: Values {
+    /// Puts a number into a register, which is there.
+    fn set_number_register(&mut self, register: usize, number: Num)
+        requires { register < length (Self.registers self.old).numbers }
+        ensures stands { (t : TaggedValues) → Self.stands self.old t → Self.stands self.new t }
+        ensures registers { Self.registers self.new ≡ record (Self.registers self.old) {
+          numbers = slice_set (Self.registers self.old).numbers register number;
+        } };
+
+    /// Puts a truth value into a register, which is there.
+    fn set_truth_register(&mut self, register: usize, truth: bool)
+        requires { register < length (Self.registers self.old).truths }
+        ensures stands { (t : TaggedValues) → Self.stands self.old t → Self.stands self.new t }
+        ensures registers { Self.registers self.new ≡ record (Self.registers self.old) {
+          truths = slice_set (Self.registers self.old).truths register truth;
+        } };
+
+    /// Makes the registers those for a run with these constants; whether there was memory for them.
+    fn lay(&mut self, constants: &[Value]) -> bool
+        ensures stands { (t : TaggedValues) → Self.stands self.old t → Self.stands self.new t }
+        ensures laid { result ≡ true → HoldsConstants constants.now (Self.registers self.new) };
 }
