@@ -650,7 +650,7 @@ fn hand_in_done<R: Runtime<A = Global, File = File>, L: Listener>(
     }
 }
 
-/// Tells how a run ended that saved its tables, or nothing. A person is told what to do.
+/// Tells how a run ended, whether it saved its tables or nothing. A person is told what to do then.
 fn tell_end(rt: &impl Runtime, audience: Audience, ended: &Ended, saved: bool) -> Status {
     let _ = eprintln!(rt; "{ended}");
     if let Some(hint) = of_end(&ended.how, saved) {

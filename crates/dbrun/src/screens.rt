@@ -62,7 +62,7 @@ pub fn may_show<R: Runtime<A = Global>>(rt: &R, words: &RunWords<'_>) -> Result<
 }
 
 /// Who types the lines of a job and writes the screens before them to a new file of this name. A person is told how far
-/// the run has come.
+/// the run has come. Want of memory is told here, and its status given.
 fn typist_of<'a, R: Runtime<A = Global>>(
     rt: &'a R,
     audience: Audience,

@@ -1,4 +1,4 @@
-//! Files read: code files, tables, and any others.
+//! Reads files: code files, tables, and any others.
 
 ghost use Rattle.std.specs.Prelude.{◌≤◌, Some, length, IfOk, IfErr};
 ghost use Rattle.file_access.specs.Holding.{SameFiles};

@@ -270,7 +270,8 @@ const ANSWERS: [(&str, LeftOut); 6] = [
     ("DELETED", LeftOut::OtherArea),
 ];
 
-/// What is left out with the first of these words that this one is. It may be cut to its first letters, four or more.
+/// What is left out with the first of these words that this one is. The word may be cut to its first letters, four
+/// or more.
 fn first_named(words: &[(&str, LeftOut)], word: &[u8]) -> Option<LeftOut>
     ensures { result ≡ spec.first_named (map (λ w. (w.0.now, w.1)) words.now) (map to_ascii_uppercase word.now) }
 {

@@ -8,8 +8,8 @@ use Rattle.line_journal.specs.declared.kept.NotKept.TheVariants.{Journal, Memory
 abbrev pub ended_by_lf : List ℕ → List ℕ
 ended_by_lf line = line ++ 10 ∷ []
 
--- how often the journal failed before and after a line wasn't kept: more often where the journal is why, and as often
--- where memory is
+-- the count of the journal's failures before and after a line wasn't kept: it rose, or is at its greatest, where the
+-- journal is why, and else it stays
 abbrev pub NotKeptIs : ℕ → ℕ → NotKept → Type 0
 NotKeptIs before after Journal = Rose before after
 NotKeptIs before after Memory = after ≡ before

@@ -70,7 +70,7 @@ begun code w b opens s = record {
 pub record SafeFrom {K : Type 0} (code : Code) (w : World) (m : Machine Untagged K) (d : Decoded) : Type 0 where
   pub stands : StandsFor IsByKind m w
   pub safe : IsSafe code w
-  pub decoded : IsDecoded code d
+  pub decoded : IsDecoded code m.values.cells.registers d
   pub fits : IsFitting code w
 
 pub safe_from : {K : Type 0} (code : Code) (w : World) (m : Machine Untagged K) (d : Decoded) (b : BankState)
@@ -86,7 +86,7 @@ safe_from code w m d b view runs twin =
 
 unfoldable pub headline : (code : Code) → RunsWell code
     → (from : World) (budget : ℕ) (outcome : Outcome) (b : BankState)
-    → IsFitting code from → OpenIndexesList b.env.store → IsDecoded code b.decoded
+    → IsFitting code from → OpenIndexesList b.env.store → IsDecoded code b.values.cells.registers b.decoded
     → EndsRun code from budget outcome (IsByKind b.values) b.place b.returns b.env → Headline code from budget outcome b
 headline code runs from budget outcome b fit lists decoded ends =
     let there = runs.fits from fit ends.ran.count ends.last ends.ran.reached in
@@ -113,7 +113,7 @@ headline code runs from budget outcome b fit lists decoded ends =
 -- ---- pauses
 
 unfoldable pub paused : (code : Code) → RunsWell code → (from : World) (budget steps : ℕ) (b : BankState)
-    → IsFitting code from → OpenIndexesList b.env.store → IsDecoded code b.decoded
+    → IsFitting code from → OpenIndexesList b.env.store → IsDecoded code b.values.cells.registers b.decoded
     → (p : Pauses code from budget steps (IsByKind b.values) b.place b.returns b.env)
     → PausesAt code from budget steps b
 paused code runs from budget steps b fit lists decoded p =
@@ -140,7 +140,7 @@ paused code runs from budget steps b fit lists decoded p =
 
 pub goes_to : (code : Code) → RunsWell code → (from : World) (budget : ℕ) (marks : List Bool) (leg : Leg)
     (b : BankState)
-    → IsFitting code from → OpenIndexesList b.env.store → IsDecoded code b.decoded
+    → IsFitting code from → OpenIndexesList b.env.store → IsDecoded code b.values.cells.registers b.decoded
     → IsLeg code from budget marks leg (IsByKind b.values) b.place b.returns b.env → GoesTo code from budget marks leg b
 unfolding headline paused
 goes_to code runs from budget marks (Ended outcome) b fit lists decoded g =

@@ -41,14 +41,14 @@ pub record AgreesWith (b : BankState) (w : World) : Type 0 where
   pub values : IsByKind b.values w.values
 
 -- they agree with a world in which all is so as the verifier knows it at the world's place, and each procedure that
--- runs was called from where it returns to; and they hold what this code is decoded to
+-- runs was called from where it returns to; and they hold what this code is decoded to, with the registers for it
 pub record Twin (code : Code) (w : World) (b : BankState) : Type 0 where
   pub agrees : AgreesWith b w
   pub fits : IsFitting code w
-  pub decoded : IsDecoded code b.decoded
+  pub decoded : IsDecoded code b.values.cells.registers b.decoded
 
 -- they agree with the world from which a run of the code begins over some tables of the declared structures, with some
--- lines of the operator, on some day; and they hold what this code is decoded to
+-- lines of the operator, on some day; and they hold what this code is decoded to, with the registers for it
 pub record Begins (code : Code) (w : World) (b : BankState) : Type 0 where
   pub store : StoreState
   pub lines : List (List ℕ)
@@ -56,4 +56,4 @@ pub record Begins (code : Code) (w : World) (b : BankState) : Type 0 where
   pub declared : StoreFits code.declared store
   pub opens : w ≡ opening code store lines today
   pub agrees : AgreesWith b w
-  pub decoded : IsDecoded code b.decoded
+  pub decoded : IsDecoded code b.values.cells.registers b.decoded

@@ -374,7 +374,7 @@ pub struct EndedTalk<K: KeyList> {
 ///
 /// # Errors
 /// The operator or the journal failed, or a line isn't one, or memory was refused before the run began or for a line.
-/// The journal is why only where it failed, and counted that.
+/// `Broken::Journal` is answered only where the journal failed and counted that.
 pub fn converse<J: Journal, O: Operator, K: KeyList>(
     alloc: Global,
     verified: &Verified,

@@ -262,9 +262,9 @@ fn told(run: Result<Ended, RunRefusal>) -> Result<Ended, OperateRefusal>
 /// which are the job's input, and goes on with those that the operator answers. Each of these is kept in the journal
 /// before the run sees it. Behind the end of the input each further line is empty. What is printed and saved is what
 /// `run_files` prints and saves for the same job with what the journal holds then as its input. Where the operator or
-/// the journal fails, or a line isn't one, nothing is printed or saved. The journal is why a conversation broke off
-/// only where it failed, and counted that. All lines together have at most `most` bytes, each with its end: where a
-/// line would pass that, the end of the input alone is left to answer.
+/// the journal fails, or a line isn't one, nothing is printed or saved. `Broken::Journal` is answered only where the
+/// journal failed and counted that. All lines together have at most `most` bytes, each with its end: where a line would
+/// pass that, the end of the input alone is left to answer.
 pub fn operate_files<F: Files, J: Journal, O: Operator>(
     alloc: Global,
     files: &mut F,

@@ -55,8 +55,9 @@ impl<V: Values, K: KeyList> Machine<V, K> {
         lines: TypedLines,
         today: Day,
     ) -> Result<Self, AllocError>
-        ensures { (code : AnyCode) → V.stands values (no_values code)
+        ensures opens { (code : AnyCode) → V.stands values (no_values code)
             → IfOk result (λ machine. StandsFor V.stands machine (opening code store lines today)) }
+        ensures values { IfOk result (λ machine. machine.values ≡ values) }
     {
         let mut store = store;
         store.close_all();

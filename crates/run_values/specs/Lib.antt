@@ -2,7 +2,6 @@ pub mod KindStacks
 pub mod Kept
 pub mod Operands
 pub mod Places
-pub mod Registers
 pub mod BlockStack
 pub mod Calling
 pub mod Standing

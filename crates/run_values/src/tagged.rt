@@ -147,12 +147,12 @@ impl Values for Tagged {
         self.values.value(kind, slot)
     }
 
-    fn number(&self, source: Operand) -> &Num {
-        self.values.number(source)
+    fn number(&self, operand: Operand) -> &Num {
+        self.values.number(operand)
     }
 
-    fn held_truth(&self, source: Operand) -> bool {
-        self.values.held_truth(source)
+    fn held_truth(&self, operand: Operand) -> bool {
+        self.values.held_truth(operand)
     }
 
     fn set_number(&mut self, slot: usize, number: Num) {

@@ -97,18 +97,18 @@ pub trait Values: Drop {
             → slice_get t.slots slot ≡ Some (Some result) };
 
     /// The number of a slot or in a register, where it stands.
-    fn number(&self, source: Operand) -> &Num
+    fn number(&self, operand: Operand) -> &Num
         requires { (t : TaggedValues)
-            × (stands self.now t × NumberThere source (sources_of t (registers self.now))) }
-        ensures { (t : TaggedValues) → stands self.now t → NumberThere source (sources_of t (registers self.now))
-            → IsNumber result.now ≡ number_of_operand source (sources_of t (registers self.now)) };
+            × (stands self.now t × NumberThere operand (sources_of t (registers self.now))) }
+        ensures { (t : TaggedValues) → stands self.now t → NumberThere operand (sources_of t (registers self.now))
+            → IsNumber result.now ≡ number_of_operand operand (sources_of t (registers self.now)) };
 
     /// The truth value of a slot or in a register.
-    fn held_truth(&self, source: Operand) -> bool
+    fn held_truth(&self, operand: Operand) -> bool
         requires { (t : TaggedValues)
-            × (stands self.now t × TruthThere source (sources_of t (registers self.now))) }
-        ensures { (t : TaggedValues) → stands self.now t → TruthThere source (sources_of t (registers self.now))
-            → IsLogical result ≡ truth_of_operand source (sources_of t (registers self.now)) };
+            × (stands self.now t × TruthThere operand (sources_of t (registers self.now))) }
+        ensures { (t : TaggedValues) → stands self.now t → TruthThere operand (sources_of t (registers self.now))
+            → IsLogical result ≡ truth_of_operand operand (sources_of t (registers self.now)) };
 
     /// Puts a number into the slot, which is there.
     fn set_number(&mut self, slot: usize, number: Num)
@@ -165,7 +165,7 @@ pub trait Registered: Values {
         } };
 
     /// Makes the registers those for a run with these constants; whether there was memory for them.
-    fn lay(&mut self, constants: &[Value]) -> bool
+    fn fill_registers(&mut self, constants: &[Value]) -> bool
         ensures stands { (t : TaggedValues) → Self.stands self.old t → Self.stands self.new t }
-        ensures laid { result ≡ true → HoldsConstants constants.now (Self.registers self.new) };
+        ensures filled { result ≡ true → HoldsConstants constants.now (Self.registers self.new) };
 }

@@ -62,11 +62,6 @@ lacks_field fields name e part n same =
     (none_there (λ f. bytes_eq f.name.items name) fields part.field 256 n.field n.is_byte n.there e)
     (sym (ap name_of n.there) ∙ same)
 
--- a name that is too long is no field's
-pub lacks_long : (fields : List Field) (name : List ℕ) → 10 < length name → LacksField fields name
-lacks_long fields name l part n same =
-    let e = ap (λ (x : List ℕ). length x) (sym (ap name_of n.there) ∙ same) in absurd (omega (arith, l, n.short, e))
-
 -- ---- numbers that fit a byte
 
 pub byte_found : (r : Option ℕ) (n : ℕ) (P : ℕ → Type 0) → MatchOption r (255 < n) (λ byte. byte ≡ n) → P n

@@ -61,6 +61,7 @@ TableFaultIs holds before name fault.Table =
     (is_new_table_name before.tables name ≡ true) × (length before.tables < 32)
     × (LacksTable (holds (file_name name)) ⊎ IsUnfitTable (holds (file_name name)) before.tables name)
 
+-- (a table's number is a byte, so an index may name one of the first 256)
 abbrev pub IndexFaultIs : Shape → List ℕ → List ℕ → List ℕ → LineFault → Type 0
 IndexFaultIs before name table key fault.Word = ⊥
 IndexFaultIs before name table key fault.Name =

@@ -1,6 +1,6 @@
 //! A declaration file read.
 
-ghost use Rattle.std.specs.Prelude.{◌≡◌, ◌≤◌, ℕ, true, Some, length, IfErr, IfOk, OnErr, OnOk};
+ghost use Rattle.std.specs.Prelude.{◌≡◌, ◌≤◌, true, Some, length, IfErr, IfOk, OnErr, OnOk};
 ghost use Rattle.file_access.specs.Holding.{SameFiles};
 ghost use Rattle.shape.specs.Whole.{is_shape};
 ghost use Rattle.text_lines.specs.Lines.{lines};

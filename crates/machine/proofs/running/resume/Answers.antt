@@ -22,7 +22,7 @@ run-outcome-requires-clause-decoded g c =
     let b = c.banks.inside in
     let runs = c.accepted_codes_run_well.ensures in
     let s = safe_from c.args.verified.now w b.machine b.decoded _ c.banks.view_is runs c.requires.1 in
-    subst (λ k. IsDecoded k c.banks.inside.decoded) (sym c.code-code.ensures.same) s.decoded
+    subst (λ k. IsDecoded k c.banks.inside.machine.values.cells.registers c.banks.inside.decoded) (sym c.code-code.ensures.same) s.decoded
 
 pub returns : goal.returns
 returns g c = λ w twin.
@@ -34,6 +34,6 @@ returns g c = λ w twin.
     let safe = subst (λ k. IsSafe k w) (sym same) s.safe in
     headline c.args.verified.now runs w c.args.budget c.run-outcome.result (banks_of n.machine b.decoded) s.fits
     (subst OpenIndexesList c.store.ensures c.open_indexes_list_keys.ensures)
-    s.decoded
+    (subst (λ k. IsDecoded k n.machine.values.cells.registers b.decoded) same c.run-outcome.ensures.decoded)
     (subst (λ k. EndsMachine k w c.args.budget c.run-outcome.result IsByKind n.machine) same
-    (c.run-outcome.ensures w s.stands safe))
+    (c.run-outcome.ensures.ends w s.stands safe))

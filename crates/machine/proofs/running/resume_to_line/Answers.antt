@@ -22,7 +22,7 @@ run_to_line-leg-requires-clause-decoded g c =
     let b = c.banks.inside in
     let runs = c.accepted_codes_run_well.ensures in
     let s = safe_from c.args.verified.now w b.machine b.decoded _ c.banks.view_is runs c.requires.1 in
-    subst (λ k. IsDecoded k c.banks.inside.decoded) (sym c.code.ensures.same) s.decoded
+    subst (λ k. IsDecoded k c.banks.inside.machine.values.cells.registers c.banks.inside.decoded) (sym c.code.ensures.same) s.decoded
 
 pub returns : goal.returns
 returns g c = λ w twin.
@@ -35,6 +35,6 @@ returns g c = λ w twin.
     goes_to c.args.verified.now runs w c.args.budget c.args.marks.now c.run_to_line-leg.result
     (banks_of n.machine b.decoded) s.fits
     (subst OpenIndexesList c.store.ensures c.open_indexes_list_keys.ensures)
-    s.decoded
+    (subst (λ k. IsDecoded k n.machine.values.cells.registers b.decoded) same c.run_to_line-leg.ensures.decoded)
     (subst (λ k. LegMachine k w c.args.budget c.args.marks.now c.run_to_line-leg.result IsByKind n.machine) same
-    (c.run_to_line-leg.ensures w s.stands safe))
+    (c.run_to_line-leg.ensures.leg w s.stands safe))

@@ -8,27 +8,27 @@ use Rattle.run_steps.proofs.LeadingSteps.{safe_on}
 use Rattle.run_steps.proofs.Runs.{here, place_there, finishes_there, costs_some, found_there}
 use Rattle.run_steps.proofs.pausing.run_to_line.Goals as goal
 
-pub loop-blocks-init : goal.loop-blocks-init
-loop-blocks-init g c = record {
-  goes = λ w t safe. begun c.args.marks.now _ w _ _ _ _ _ (c.blocks_for-blocks.ensures.stands w t);
+pub loop-alloc-init : goal.loop-alloc-init
+loop-alloc-init g c = record {
+  goes = λ w t safe. begun c.args.marks.now _ w _ _ _ _ _ t;
   within = omega arith;
-  served = c.blocks_for-blocks.ensures.served;
+  decoded = c.requires.decoded;
 }
 
 pub take_blocks-steps-requires : goal.take_blocks-steps-requires
 take_blocks-steps-requires g c =
     let s = c.requires.safe in
-    let p = (c.loop-blocks.invariant.goes s.0 s.1.0 s.1.1).pauses in
+    let p = (c.loop-alloc.invariant.goes s.0 s.1.0 s.1.1).pauses in
     record {
       safe = (p.last, (p.stands, safe_on _ _ _ p.came.count s.1.1 p.came.reached));
-      known = c.blocks_for-blocks.ensures.known;
-      served = c.loop-blocks.invariant.served;
+      known = c.loop-alloc.invariant.decoded.known;
+      served = c.loop-alloc.invariant.decoded.served;
     }
 
-pub returns-then-is_reached : goal.returns-then-is_reached
-returns-then-is_reached g c = λ w t safe.
-    let u = blocks_on c.args.marks.now _ w _ _ _ _ _ _ _ _ _ _ _ safe (c.loop-blocks.invariant.goes w t safe)
-    c.take_blocks-steps.ensures.leads c.loop-blocks.invariant.within c.take_blocks-steps.ensures.within in
+pub returns-then-is_reached-clause-leg : goal.returns-then-is_reached-clause-leg
+returns-then-is_reached-clause-leg g c = λ w t safe.
+    let u = blocks_on c.args.marks.now _ w _ _ _ _ _ _ _ _ _ _ _ safe (c.loop-alloc.invariant.goes w t safe)
+    c.take_blocks-steps.ensures.leads c.loop-alloc.invariant.within c.take_blocks-steps.ensures.within in
     let p = u.pauses in (
       p,
       (
@@ -43,13 +43,13 @@ pub get-instr-requires : goal.get-instr-requires
 get-instr-requires g c =
     let s = c.requires.safe in
     place_there _ s.0 _ _ _ _ _ s.1.1 (follows _ s.0 _ _ _ _ _ _ (blocks_on
-    c.args.marks.now _ s.0 _ _ _ _ _ _ _ _ _ _ _ s.1.1 (c.loop-blocks.invariant.goes s.0 s.1.0 s.1.1)
-    c.take_blocks-steps.ensures.leads c.loop-blocks.invariant.within c.take_blocks-steps.ensures.within).pauses)
+    c.args.marks.now _ s.0 _ _ _ _ _ _ _ _ _ _ _ s.1.1 (c.loop-alloc.invariant.goes s.0 s.1.0 s.1.1)
+    c.take_blocks-steps.ensures.leads c.loop-alloc.invariant.within c.take_blocks-steps.ensures.within).pauses)
 
-pub returns-then-wants_line : goal.returns-then-wants_line
-returns-then-wants_line g c = λ w t safe.
-    let u = blocks_on c.args.marks.now _ w _ _ _ _ _ _ _ _ _ _ _ safe (c.loop-blocks.invariant.goes w t safe)
-    c.take_blocks-steps.ensures.leads c.loop-blocks.invariant.within c.take_blocks-steps.ensures.within in
+pub returns-then-wants_line-clause-leg : goal.returns-then-wants_line-clause-leg
+returns-then-wants_line-clause-leg g c = λ w t safe.
+    let u = blocks_on c.args.marks.now _ w _ _ _ _ _ _ _ _ _ _ _ safe (c.loop-alloc.invariant.goes w t safe)
+    c.take_blocks-steps.ensures.leads c.loop-alloc.invariant.within c.take_blocks-steps.ensures.within in
     let p = u.pauses in
     let h = here _ w _ _ _ _ _ c.get-instr.result.now safe (follows _ w _ _ _ _ _ _ p) (found_there c.args.code.now
     c.take_blocks-steps.new.machine.place c.get-instr.result.now c.get-instr.ensures) in
@@ -64,11 +64,11 @@ returns-then-wants_line g c = λ w t safe.
       ),
     )
 
-pub returns-then-finishes : goal.returns-then-finishes
-returns-then-finishes g c = λ w t safe.
-    let steps = c.loop-blocks.steps + c.take_blocks-steps.result in
-    let u = blocks_on c.args.marks.now _ w _ _ _ _ _ _ _ _ _ _ _ safe (c.loop-blocks.invariant.goes w t safe)
-    c.take_blocks-steps.ensures.leads c.loop-blocks.invariant.within c.take_blocks-steps.ensures.within in
+pub returns-then-finishes-clause-leg : goal.returns-then-finishes-clause-leg
+returns-then-finishes-clause-leg g c = λ w t safe.
+    let steps = c.loop-alloc.steps + c.take_blocks-steps.result in
+    let u = blocks_on c.args.marks.now _ w _ _ _ _ _ _ _ _ _ _ _ safe (c.loop-alloc.invariant.goes w t safe)
+    c.take_blocks-steps.ensures.leads c.loop-alloc.invariant.within c.take_blocks-steps.ensures.within in
     let p = u.pauses in
     let h = here _ w _ _ _ _ _ c.get-instr.result.now safe (follows _ w _ _ _ _ _ _ p) (found_there c.args.code.now
     c.take_blocks-steps.new.machine.place c.get-instr.result.now c.get-instr.ensures) in
@@ -79,15 +79,15 @@ returns-then-finishes g c = λ w t safe.
     h on lt))
     (λ le.
     let all : steps ≡ c.args.budget =
-    omega (arith, le, c.loop-blocks.invariant.within, c.take_blocks-steps.ensures.within) in
+    omega (arith, le, c.loop-alloc.invariant.within, c.take_blocks-steps.ensures.within) in
     rw (c.finishing.ensures.spent le)
     (ends_unpaid c.args.marks.now _ w _ _ _ _ _ _ c.get-instr.result.now p by h on all)) (cases_lt steps c.args.budget)
 
 pub execute-requires-clause-ready : goal.execute-requires-clause-ready
 execute-requires-clause-ready g c =
     let s = c.requires.safe in
-    let u = blocks_on c.args.marks.now _ s.0 _ _ _ _ _ _ _ _ _ _ _ s.1.1 (c.loop-blocks.invariant.goes s.0 s.1.0 s.1.1)
-    c.take_blocks-steps.ensures.leads c.loop-blocks.invariant.within c.take_blocks-steps.ensures.within in
+    let u = blocks_on c.args.marks.now _ s.0 _ _ _ _ _ _ _ _ _ _ _ s.1.1 (c.loop-alloc.invariant.goes s.0 s.1.0 s.1.1)
+    c.take_blocks-steps.ensures.leads c.loop-alloc.invariant.within c.take_blocks-steps.ensures.within in
     let p = u.pauses in
     let h = here _ s.0 _ _ _ _ _ c.get-instr.result.now s.1.1 (follows _ s.0 _ _ _ _ _ _ p) (found_there
     c.args.code.now c.take_blocks-steps.new.machine.place c.get-instr.result.now c.get-instr.ensures) in (
@@ -102,34 +102,34 @@ execute-requires-clause-ready g c =
 pub overflow_add-steps-in-Ok : goal.overflow_add-steps-in-Ok
 overflow_add-steps-in-Ok g c =
     let s = c.requires.safe in
-    let u = blocks_on c.args.marks.now _ s.0 _ _ _ _ _ _ _ _ _ _ _ s.1.1 (c.loop-blocks.invariant.goes s.0 s.1.0 s.1.1)
-    c.take_blocks-steps.ensures.leads c.loop-blocks.invariant.within c.take_blocks-steps.ensures.within in
+    let u = blocks_on c.args.marks.now _ s.0 _ _ _ _ _ _ _ _ _ _ _ s.1.1 (c.loop-alloc.invariant.goes s.0 s.1.0 s.1.1)
+    c.take_blocks-steps.ensures.leads c.loop-alloc.invariant.within c.take_blocks-steps.ensures.within in
     let p = u.pauses in
     let h = here _ s.0 _ _ _ _ _ c.get-instr.result.now s.1.1 (follows _ s.0 _ _ _ _ _ _ p) (found_there
     c.args.code.now c.take_blocks-steps.new.machine.place c.get-instr.result.now c.get-instr.ensures) in
     let x = c.in-Ok.ensures.steps p.last p.stands (h.ready (finishes_there _ s.0 _ _ _ _ _ c.get-instr.result.now _
     (follows _ s.0 _ _ _ _ _ _ p) c.if-finishes.ensures)) in
     let some = costs_some c.args.code.now c.get-instr.result.now p.last.values p.last.env in
-    omega (arith, x.2, c.ranges.budget.fits, c.loop-blocks.invariant.within, c.take_blocks-steps.ensures.within)
+    omega (arith, x.2, c.ranges.budget.fits, c.loop-alloc.invariant.within, c.take_blocks-steps.ensures.within)
 
-pub loop-blocks-smaller : goal.loop-blocks-smaller
-loop-blocks-smaller g c =
+pub loop-alloc-smaller : goal.loop-alloc-smaller
+loop-alloc-smaller g c =
     let s = c.requires.safe in
-    let u = blocks_on c.args.marks.now _ s.0 _ _ _ _ _ _ _ _ _ _ _ s.1.1 (c.loop-blocks.invariant.goes s.0 s.1.0 s.1.1)
-    c.take_blocks-steps.ensures.leads c.loop-blocks.invariant.within c.take_blocks-steps.ensures.within in
+    let u = blocks_on c.args.marks.now _ s.0 _ _ _ _ _ _ _ _ _ _ _ s.1.1 (c.loop-alloc.invariant.goes s.0 s.1.0 s.1.1)
+    c.take_blocks-steps.ensures.leads c.loop-alloc.invariant.within c.take_blocks-steps.ensures.within in
     let p = u.pauses in
     let h = here _ s.0 _ _ _ _ _ c.get-instr.result.now s.1.1 (follows _ s.0 _ _ _ _ _ _ p) (found_there
     c.args.code.now c.take_blocks-steps.new.machine.place c.get-instr.result.now c.get-instr.ensures) in
     let x = c.in-Ok.ensures.steps p.last p.stands (h.ready (finishes_there _ s.0 _ _ _ _ _ c.get-instr.result.now _
     (follows _ s.0 _ _ _ _ _ _ p) c.if-finishes.ensures)) in
     let some = costs_some c.args.code.now c.get-instr.result.now p.last.values p.last.env in
-    omega (arith, x.1, x.2, some, c.loop-blocks.invariant.within, c.take_blocks-steps.ensures.within)
+    omega (arith, x.1, x.2, some, c.loop-alloc.invariant.within, c.take_blocks-steps.ensures.within)
 
-pub loop-blocks-preserved : goal.loop-blocks-preserved
-loop-blocks-preserved g c =
+pub loop-alloc-preserved : goal.loop-alloc-preserved
+loop-alloc-preserved g c =
     let s = c.requires.safe in
-    let u = blocks_on c.args.marks.now _ s.0 _ _ _ _ _ _ _ _ _ _ _ s.1.1 (c.loop-blocks.invariant.goes s.0 s.1.0 s.1.1)
-    c.take_blocks-steps.ensures.leads c.loop-blocks.invariant.within c.take_blocks-steps.ensures.within in
+    let u = blocks_on c.args.marks.now _ s.0 _ _ _ _ _ _ _ _ _ _ _ s.1.1 (c.loop-alloc.invariant.goes s.0 s.1.0 s.1.1)
+    c.take_blocks-steps.ensures.leads c.loop-alloc.invariant.within c.take_blocks-steps.ensures.within in
     let p = u.pauses in
     let h = here _ s.0 _ _ _ _ _ c.get-instr.result.now s.1.1 (follows _ s.0 _ _ _ _ _ _ p) (found_there
     c.args.code.now c.take_blocks-steps.new.machine.place c.get-instr.result.now c.get-instr.ensures) in
@@ -138,8 +138,8 @@ loop-blocks-preserved g c =
     let some = costs_some c.args.code.now c.get-instr.result.now p.last.values p.last.env in
     record {
       goes = λ w t safe.
-          let u = blocks_on c.args.marks.now _ w _ _ _ _ _ _ _ _ _ _ _ safe (c.loop-blocks.invariant.goes w t safe)
-          c.take_blocks-steps.ensures.leads c.loop-blocks.invariant.within c.take_blocks-steps.ensures.within in
+          let u = blocks_on c.args.marks.now _ w _ _ _ _ _ _ _ _ _ _ _ safe (c.loop-alloc.invariant.goes w t safe)
+          c.take_blocks-steps.ensures.leads c.loop-alloc.invariant.within c.take_blocks-steps.ensures.within in
           let p = u.pauses in
           let h = here _ w _ _ _ _ _ c.get-instr.result.now safe (follows _ w _ _ _ _ _ _ p) (found_there
           c.args.code.now c.take_blocks-steps.new.machine.place c.get-instr.result.now c.get-instr.ensures) in
@@ -151,15 +151,19 @@ loop-blocks-preserved g c =
           c.if-wants_line.false (omega (arith, x.1, x.2, some)) in
           onward c.args.marks.now _ w _ _ _ _ _ _ _ _ _ _ _ c.get-instr.result.now u
           (c.is_reached.ensures.unmarked c.if-is_reached.false) h on wet p.within x;
-      within = omega (arith, x.2, c.loop-blocks.invariant.within, c.take_blocks-steps.ensures.within);
-      served = λ place b e. subst (HasConstants c.args.code.now) (sym c.in-Ok.ensures.registers)
-          (c.take_blocks-steps.ensures.served place b e);
+      within = omega (arith, x.2, c.loop-alloc.invariant.within, c.take_blocks-steps.ensures.within);
+      decoded = record {
+        known = c.loop-alloc.invariant.decoded.known;
+        served = λ place b e. subst (HasConstants c.args.code.now) (sym c.in-Ok.ensures.registers)
+            (c.take_blocks-steps.ensures.served place b e);
+        filters = c.loop-alloc.invariant.decoded.filters;
+      };
     }
 
-pub returns-in-Err : goal.returns-in-Err
-returns-in-Err g c = λ w t safe.
-    let u = blocks_on c.args.marks.now _ w _ _ _ _ _ _ _ _ _ _ _ safe (c.loop-blocks.invariant.goes w t safe)
-    c.take_blocks-steps.ensures.leads c.loop-blocks.invariant.within c.take_blocks-steps.ensures.within in
+pub returns-in-Err-clause-leg : goal.returns-in-Err-clause-leg
+returns-in-Err-clause-leg g c = λ w t safe.
+    let u = blocks_on c.args.marks.now _ w _ _ _ _ _ _ _ _ _ _ _ safe (c.loop-alloc.invariant.goes w t safe)
+    c.take_blocks-steps.ensures.leads c.loop-alloc.invariant.within c.take_blocks-steps.ensures.within in
     let p = u.pauses in
     let h = here _ w _ _ _ _ _ c.get-instr.result.now safe (follows _ w _ _ _ _ _ _ p) (found_there c.args.code.now
     c.take_blocks-steps.new.machine.place c.get-instr.result.now c.get-instr.ensures) in

@@ -2,19 +2,19 @@ use Rattle.std.proofs.Common.{◌-◌, ◌≤◌}
 use Rattle.run_steps.specs.World.{World}
 use Rattle.run_steps.specs.Run.{StandsForWorld}
 use Rattle.run_steps.specs.Safe.{IsSafe}
-use Rattle.run_steps.specs.Tables.{AreServed}
+use Rattle.run_steps.specs.Tables.{IsDecoded}
 use Rattle.run_steps.proofs.Pauses.{Comes}
 use Rattle.run_steps.proofs.pausing.run_to_line.Given as goal
 
-abbrev pub invariant-loop-blocks : goal.invariant-loop-blocks
-invariant-loop-blocks g l = record {
+abbrev pub invariant-loop-alloc : goal.invariant-loop-alloc
+invariant-loop-alloc g l = record {
   goes : (w : World) → StandsForWorld (g.V.Values.stands l.fn.machine.values) l.fn.machine.place l.fn.machine.returns
       l.fn.machine.env w → IsSafe l.fn.code w
       → Comes l.fn.marks l.fn.code w l.budget l.steps (g.V.Values.stands l.machine.values) l.machine.place
       l.machine.returns l.machine.env;
   within : l.steps ≤ l.budget;
-  served : AreServed l.code l.blocks (g.V.Values.registers l.machine.values);
+  decoded : IsDecoded l.code (g.V.Values.registers l.machine.values) l.decoded;
 }
 
-abbrev pub decreases-loop-blocks : goal.decreases-loop-blocks
-decreases-loop-blocks g l = l.budget - l.steps
+abbrev pub decreases-loop-alloc : goal.decreases-loop-alloc
+decreases-loop-alloc g l = l.budget - l.steps

@@ -11,7 +11,7 @@ returns-clause-shape g c =
     let legal = subst IsCode c.code.ensures.same c.code.ensures.legal in
     let slots = c.from.ensures ∙ ap (λ (code : Code). code.declared.slots) c.code.ensures.same in
     opened c.openings_have_the_shape.ensures c.args.code.now c.args.store c.args.lines c.args.today
-    c.in_ok-opening.field-0 legal c.requires.fits (c.in_ok-opening.ensures c.args.code.now (record {
+    c.in_ok-opening.field-0 legal c.requires.fits (c.in_ok-opening.ensures.opens c.args.code.now (record {
       slots = ap (λ (t : TaggedValues). t.slots) c.in_ok-values.ensures ∙ ap (λ n. replicate n None) slots;
       stack = ap (λ (t : TaggedValues). t.stack) c.in_ok-values.ensures;
     }))
