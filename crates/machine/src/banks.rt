@@ -54,8 +54,8 @@ impl<K: KeyList> Model for Banks<K> {
 impl<K: KeyList> Banks<K> {
     /// The banks from which a run of the code begins: at place 0, with all slots unset and nothing on the stacks, these
     /// tables with all areas closed, these lines of the operator, a blank screen and all settings off, on this day.
-    /// They take the memory for slots, stacks and registers, so that values take none in a run. The code is decoded here,
-    /// once for all parts of the run, as far as there is memory.
+    /// They take the memory for slots, stacks and registers, so that values take none in a run. The code is decoded
+    /// here, once for all parts of the run, as far as there is memory.
     pub fn opening(
         alloc: Global,
         verified: &Verified,

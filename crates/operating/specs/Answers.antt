@@ -26,8 +26,8 @@ pub record LastUnkept (told_before told_after held_before held_after : List ℕ)
   pub held : held_after ≡ held_before ++ typed
   pub one : (last ≡ []) ⊎ ((line : List ℕ) × (last ≡ ended_by_lf line))
 
--- the count of the journal's failures before and after a conversation broke off: it rose, or is at its greatest, where the
--- journal is why, and else it stays
+-- the count of the journal's failures before and after a conversation broke off: it rose, or is at its greatest, where
+-- the journal is why, and else it stays
 abbrev pub BrokeOff : ℕ → ℕ → Broken → Type 0
 BrokeOff before after broken.Operator = after ≡ before
 BrokeOff before after broken.Journal = Rose before after

@@ -44,8 +44,8 @@ abbrev pub SameResult : Result Ended RunRefusal → Result Ended OperateRefusal 
 SameResult (Ok ended) told = told ≡ Ok ended
 SameResult (Err refusal) told = told ≡ Err (Run refusal)
 
--- the count of the journal's failures before and after a refused conversation: it rose, or is at its greatest, where the
--- journal is why, and else it stays
+-- the count of the journal's failures before and after a refused conversation: it rose, or is at its greatest, where
+-- the journal is why, and else it stays
 abbrev pub OperationBroke : ℕ → ℕ → OperateRefusal → Type 0
 OperationBroke before after (Run refusal) = after ≡ before
 OperationBroke before after (Broke why) = BrokeOff before after why

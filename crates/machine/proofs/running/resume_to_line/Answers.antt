@@ -22,7 +22,8 @@ run_to_line-leg-requires-clause-decoded g c =
     let b = c.banks.inside in
     let runs = c.accepted_codes_run_well.ensures in
     let s = safe_from c.args.verified.now w b.machine b.decoded _ c.banks.view_is runs c.requires.1 in
-    subst (λ k. IsDecoded k c.banks.inside.machine.values.cells.registers c.banks.inside.decoded) (sym c.code.ensures.same) s.decoded
+    subst (λ k. IsDecoded k c.banks.inside.machine.values.cells.registers c.banks.inside.decoded)
+    (sym c.code.ensures.same) s.decoded
 
 pub returns : goal.returns
 returns g c = λ w twin.
