@@ -79,7 +79,7 @@ overflow_add-steps g c =
     let m = c.loop-kind.machine in
     let h = here (world_seen m) c.faultless_worlds_go_on.ensures c.requires.legal comes c.get-instr.ensures
     c.in_default.ensures in
-    let x = c.in-Ok.ensures (world_seen m) (stands m) (h.ready (sym c.if-finishes.ensures)) in
+    let x = c.in-Ok.ensures.steps (world_seen m) (stands m) (h.ready (sym c.if-finishes.ensures)) in
     omega (arith, x.2, c.ranges.budget.fits, c.loop-kind.invariant.within)
 
 pub loop-kind-smaller : goal.loop-kind-smaller
@@ -88,7 +88,7 @@ loop-kind-smaller g c =
     let m = c.loop-kind.machine in
     let h = here (world_seen m) c.faultless_worlds_go_on.ensures c.requires.legal comes c.get-instr.ensures
     c.in_default.ensures in
-    let x = c.in-Ok.ensures (world_seen m) (stands m) (h.ready (sym c.if-finishes.ensures)) in
+    let x = c.in-Ok.ensures.steps (world_seen m) (stands m) (h.ready (sym c.if-finishes.ensures)) in
     let some = costs_some c.args.code.now c.get-instr.result.now m.values m.env in
     omega (arith, x.1, x.2, some, c.loop-kind.invariant.within)
 
@@ -98,7 +98,7 @@ follow-requires g c =
     let m = c.loop-kind.machine in
     let h = here (world_seen m) c.faultless_worlds_go_on.ensures c.requires.legal comes c.get-instr.ensures
     c.in_default.ensures in
-    let x = c.in-Ok.ensures (world_seen m) (stands m) (h.ready (sym c.if-finishes.ensures)) in
+    let x = c.in-Ok.ensures.steps (world_seen m) (stands m) (h.ready (sym c.if-finishes.ensures)) in
     let next = comes_on m c.execute.new.machine c.faultless_instructions_are_clear.ensures.clear
     c.steps_keep_the_shape.ensures c.requires.legal (c.legal_codes.ensures _ c.requires.legal) comes h
     (sym c.if-finishes.ensures) x in
@@ -110,7 +110,7 @@ loop-kind-preserved g c =
     let m = c.loop-kind.machine in
     let h = here (world_seen m) c.faultless_worlds_go_on.ensures c.requires.legal comes c.get-instr.ensures
     c.in_default.ensures in
-    let x = c.in-Ok.ensures (world_seen m) (stands m) (h.ready (sym c.if-finishes.ensures)) in
+    let x = c.in-Ok.ensures.steps (world_seen m) (stands m) (h.ready (sym c.if-finishes.ensures)) in
     let store = c.store-in-Ok.ensures in
     record {
       comes = comes_on m c.execute.new.machine c.faultless_instructions_are_clear.ensures.clear
@@ -128,7 +128,7 @@ returns-in-Err-clause-ran g c =
     let m = c.loop-kind.machine in
     let h = here (world_seen m) c.faultless_worlds_go_on.ensures c.requires.legal comes c.get-instr.ensures
     c.in_default.ensures in
-    let x = c.in-Err.ensures (world_seen m) (stands m) (h.ready (sym c.if-finishes.ensures)) in
+    let x = c.in-Err.ensures.steps (world_seen m) (stands m) (h.ready (sym c.if-finishes.ensures)) in
     let n = c.execute.new.machine in
     rw c.end-end.ensures (ran n (stops_by _ _ _ _ _ _ _ _ _ _ (IsTagged m.values) (IsTagged n.values) _ c.in-Err.stop
     (follows m comes) h (sym c.if-finishes.ensures) c.loop-kind.invariant.within x))
@@ -139,7 +139,7 @@ returns-in-Err-clause-shape g c =
     let m = c.loop-kind.machine in
     let h = here (world_seen m) c.faultless_worlds_go_on.ensures c.requires.legal comes c.get-instr.ensures
     c.in_default.ensures in
-    let x = c.in-Err.ensures (world_seen m) (stands m) (h.ready (sym c.if-finishes.ensures)) in
+    let x = c.in-Err.ensures.steps (world_seen m) (stands m) (h.ready (sym c.if-finishes.ensures)) in
     (still_comes (world_seen m) _ _ c.in-Err.stop c.execute.new.machine comes x).shape
 
 pub returns-in-Err-clause-apart : goal.returns-in-Err-clause-apart
@@ -148,5 +148,5 @@ returns-in-Err-clause-apart g c =
     let m = c.loop-kind.machine in
     let h = here (world_seen m) c.faultless_worlds_go_on.ensures c.requires.legal comes c.get-instr.ensures
     c.in_default.ensures in
-    let x = c.in-Err.ensures (world_seen m) (stands m) (h.ready (sym c.if-finishes.ensures)) in
+    let x = c.in-Err.ensures.steps (world_seen m) (stands m) (h.ready (sym c.if-finishes.ensures)) in
     (still_comes (world_seen m) _ _ c.in-Err.stop c.execute.new.machine comes x).apart
