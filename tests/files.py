@@ -32,7 +32,8 @@ def index_page(length, entries, last):
 
 
 def index(expression, length, pairs):
-    """The file of an index with full leaves, and a root above them where there are several. A pair is a record and a key."""
+    """The file of an index with full leaves, and a root above them where there are several. A pair is a record and a
+    key."""
     most = 504 // (8 + (length + 3) // 4 * 4)
     pairs = sorted(pairs, key=lambda it: (it[1], it[0]))
     leaves = [pairs[first:first + most] for first in range(0, len(pairs), most)] or [[]]

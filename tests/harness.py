@@ -19,7 +19,8 @@ def program(kind=None):
     script that is asked for help ends here."""
     answer_help()
     kind = kind or os.environ.get("DBRUN_KIND")
-    found = subprocess.run([f"{TOP}/bin/dbrun", "--which", *([kind] if kind else [])], stdout=subprocess.PIPE, text=True, check=False)
+    found = subprocess.run([f"{TOP}/bin/dbrun", "--which", *([kind] if kind else [])], stdout=subprocess.PIPE,
+                           text=True, check=False)
     if found.returncode:
         sys.exit(1)
     path = found.stdout.strip()
@@ -44,8 +45,8 @@ def shown_at(terminal):
 
 
 def at_terminal(words, folder):
-    """What a program that ends by itself writes at a terminal, line by line. (The terminal doesn't control the program: a
-    terminal that does is hung up when the program ends, and what nobody has read by then is lost.)"""
+    """What a program that ends by itself writes at a terminal, line by line. (The terminal doesn't control the program:
+    a terminal that does is hung up when the program ends, and what nobody has read by then is lost.)"""
     terminal, at_it = pty.openpty()
     with subprocess.Popen(words, cwd=folder, stdin=at_it, stdout=at_it, stderr=at_it):
         os.close(at_it)
@@ -53,12 +54,13 @@ def at_terminal(words, folder):
 
 
 def instructions(words, **named):
-    """How many instructions a command takes, by callgrind, which counts the same on a busy machine; none where it fails, or
-    where valgrind isn't installed."""
+    """How many instructions a command takes, by callgrind, which counts the same on a busy machine; none where it
+    fails, or where valgrind isn't installed."""
     if not shutil.which("valgrind"):
         return None
     counted = ["valgrind", "--tool=callgrind", "--callgrind-out-file=/dev/null", *words]
-    named = {"stdin": subprocess.DEVNULL, "stdout": subprocess.DEVNULL, "stderr": subprocess.PIPE, "text": True, **named}
+    named = {"stdin": subprocess.DEVNULL, "stdout": subprocess.DEVNULL, "stderr": subprocess.PIPE, "text": True,
+             **named}
     ran = subprocess.run(counted, check=False, **named)
     found = re.findall(r"Collected : (\d+)", ran.stderr)
     return int(found[-1]) if found and not ran.returncode else None

@@ -59,8 +59,10 @@ class Calls(Commands):
 
     def has_room(self, slots, copies, filters, level):
         costs = [frame.cost for frame in self.frames]
-        return (sum(it.slots for it in costs) + slots <= MOST_SLOTS and sum(it.copies for it in costs) + copies <= MOST_COPIES
-                and sum(it.filters for it in costs) + filters <= MOST_FILTERS and len(self.frames) - 1 + level <= MOST_CALLS)
+        return (sum(it.slots for it in costs) + slots <= MOST_SLOTS
+                and sum(it.copies for it in costs) + copies <= MOST_COPIES
+                and sum(it.filters for it in costs) + filters <= MOST_FILTERS
+                and len(self.frames) - 1 + level <= MOST_CALLS)
 
     def may_call(self, procedure):
         """Whether a finished procedure finds what it needs here, and leaves what is needed."""
@@ -114,7 +116,8 @@ class Calls(Commands):
         self.frame.cost.add_call(frame.cost, self.frame.times)
 
     def left(self, area, known):
-        """An open area whose filter was set in a procedure can't be moved in until it gets another, where it reads variables."""
+        """An open area whose filter was set in a procedure can't be moved in until it gets another, where it reads
+        variables."""
         if area in (None, UNSURE) or area.filter is None or area.filter in known or not area.filter.cells:
             return area
         self.filters += 1
@@ -129,7 +132,9 @@ class Calls(Commands):
         frozen = set(self.frame.frozen)
         if neutral:
             areas = self.state.areas
-            frozen |= set(range(AREAS)) if UNSURE in areas else {n for n, area in enumerate(areas) if area and area.filter}
+            frozen |= set(range(AREAS)) if UNSURE in areas else {n
+                                                                 for n, area in enumerate(areas)
+                                                                 if area and area.filter}
         free = self.frame.free or self.one_in(5) and self.state.areas[self.state.selected] != UNSURE
         frame = Frame(names, self.state.copy(), free, neutral, frozenset(frozen))
         cells = [self.cell_of(e) for e in given]
@@ -161,11 +166,13 @@ class Calls(Commands):
     def shared(self, parameters):
         """Where two parameters are one variable, one is set, and both are shown."""
         cells = self.frame.names
-        pairs = [(one, other) for one in parameters for other in parameters if one < other and cells[one] == cells[other]]
+        pairs = [(one, other) for one in parameters
+                 for other in parameters if one < other and cells[one] == cells[other]]
         if not pairs:
             return []
         names = pairs[0]
-        return [self.set_to(names[0], self.of_kind(KIND_OF[names[0]])), ("show", True, [("alias", "M", it) for it in names])]
+        return [self.set_to(names[0], self.of_kind(KIND_OF[names[0]])),
+                ("show", True, [("alias", "M", it) for it in names])]
 
     def body(self, count, depth):
         """Commands at the top of a body."""
@@ -230,7 +237,8 @@ class Calls(Commands):
             return [self.show()]
         if not any(part.name == "ANY" for part in self.parts):
             change = [("assign", "G", self.literal(self.any_kind())), ("show", False, [("name", "G")])]
-            self.parts.append(Part("ANY", ["G"], [("show", True, [("name", "G")])] + (change if self.one_in(2) else [])))
+            self.parts.append(Part("ANY", ["G"],
+                                   [("show", True, [("name", "G")])] + (change if self.one_in(2) else [])))
         made = self.shift()
         self.frame.cost.slots += 1
         self.frame.cost.copies += 1
@@ -240,7 +248,8 @@ class Calls(Commands):
         return made + [("do", "ANY", [given]), ("show", True, [("name", "X1")])]
 
     def deep(self):
-        """A chain of calls, often as deep as calls may go, that hands a number down and brings it back, or a copy of it."""
+        """A chain of calls, often as deep as calls may go, that hands a number down and brings it back, or a copy of
+        it."""
         count = self.pick(MOST_CALLS, self.random.randrange(1, MOST_CALLS))
         number, stop = ("name", "N3"), whole(self.random.randrange(5, 50))
         for n in range(1, count + 1):

@@ -116,7 +116,8 @@ class Commands(Expressions):
 
     def typed(self):
         """What the operator types."""
-        return [self.pick(self.word().strip(" "), "12", "-7.25", "12x", "T", "n", "02/28/87", "2/30/87", "") for _ in range(9)]
+        return [self.pick(self.word().strip(" "), "12", "-7.25", "12x", "T", "n", "02/28/87", "2/30/87", "")
+                for _ in range(9)]
 
     # ---- the selected table
 
@@ -269,7 +270,8 @@ class Commands(Expressions):
     # ---- blocks
 
     def branch(self, depth):
-        """The commands of a branch, behind which the area is selected that was before, and what is known behind them."""
+        """The commands of a branch, behind which the area is selected that was before, and what is known behind
+        them."""
         before = self.state.copy()
         made = self.commands(depth - 1)
         if self.state and self.one_in(12):
@@ -352,7 +354,8 @@ class Commands(Expressions):
             return self.go_or_change()
         rare = ((12, lambda: [("set", self.random.choice(SETTINGS), self.pick(True, False))]), (15, self.form),
                 (30, lambda: [self.ask()]), (40, lambda: [("clear",)]), (30, self.release), (40, self.shift),
-                (4, self.call), (24 if len(self.frames) == 1 and not self.frame.loops else 6, lambda: [self.leave_if()]),
+                (4, self.call), (24 if len(self.frames) == 1 and not self.frame.loops else 6,
+                                 lambda: [self.leave_if()]),
                 (15, self.show_all if self.frame.free else self.excursion))
         for count, make in rare:
             if self.one_in(count):

@@ -168,7 +168,8 @@ class Expressions:
         ))()
 
     def beside_its_front(self, text):
-        return ("both", self.random.choice(COMPARED), text, ("call", "LEFT", [text, ("is", whole(self.random.randrange(4)))]))
+        return ("both", self.random.choice(COMPARED), text,
+                ("call", "LEFT", [text, ("is", whole(self.random.randrange(4)))]))
 
     def of_kind(self, kind, depth=2):
         return {COUNT: self.count, TEXT: self.letters, TRUTH: self.truth, DATE: self.date}[kind](depth)

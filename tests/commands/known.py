@@ -1,6 +1,7 @@
 """What is known at a place of a program that is being made: its work areas, and which variables have a value.
 
-A variable is known by its cell, a number that each new variable gets anew. So two names of one variable have one cell."""
+A variable is known by its cell, a number that each new variable gets anew. So two names of one variable have one
+cell."""
 
 from typing import NamedTuple, Optional
 
@@ -27,7 +28,8 @@ class Known(NamedTuple):
 
 
 class State:
-    """Work areas, each open, closed (None) or unsure, the selected one, and the cells of the variables that have a value."""
+    """Work areas, each open, closed (None) or unsure, the selected one, and the cells of the variables that have a
+    value."""
 
     def __init__(self, areas, selected, full):
         self.areas, self.selected, self.full = list(areas), selected, set(full)
@@ -46,7 +48,8 @@ class State:
 
 
 def met(states):
-    """What is known where ways meet, on all of which the same area is selected; nothing is reached where no way leads."""
+    """What is known where ways meet, on all of which the same area is selected; nothing is reached where no way
+    leads."""
     found = None
     for state in states:
         if state is None:
@@ -61,7 +64,8 @@ def met(states):
 
 
 class Cost:
-    """What a body takes of what there may be: variables, copies of procedures, filters, calls within one another, and steps."""
+    """What a body takes of what there may be: variables, copies of procedures, filters, calls within one another, and
+    steps."""
 
     def __init__(self):
         self.slots, self.copies, self.filters, self.level, self.steps = 0, 0, 0, 0, 0
@@ -82,10 +86,12 @@ class Loop(NamedTuple):
 
 
 class Frame:
-    """A body that is being made: the cells of its names, the names and cells that are its own, and the callers' names it uses.
+    """A body that is being made: the cells of its names, the names and cells that are its own, and the callers' names
+    it uses.
 
-    A free body uses no work areas, so that it can be called with any. A neutral one leaves them as it found them. Frozen areas
-    may not be opened, closed or changed in their order or filter. One that releases something may be called only once."""
+    A free body uses no work areas, so that it can be called with any. A neutral one leaves them as it found them.
+    Frozen areas may not be opened, closed or changed in their order or filter. One that releases something may be
+    called only once."""
 
     def __init__(self, names, entry, free=False, neutral=False, frozen=frozenset()):
         self.names, self.entry = names, entry

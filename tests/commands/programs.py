@@ -1,7 +1,7 @@
 """Random programs over three small tables, as trees for `world.py` and for `spelling.py`.
 
-A program is a list of command files, and a command file a list of parts. What a program knows of its work areas and variables
-is followed line by line, so that it is never refused, and every loop counts its rounds."""
+A program is a list of command files, and a command file a list of parts. What a program knows of its work areas and
+variables is followed line by line, so that it is never refused, and every loop counts its rounds."""
 
 from calls import Calls
 from commands import SETTINGS
@@ -15,7 +15,8 @@ def tables():
     """What each program begins with: columns, and keys as places of columns, in capitals or not."""
     goods = Table("GOODS", [Column("NAME", "C", 5), Column("QTY", "N", 6, 2), Column("SOLD", "L", 1)], [],
                   {"GNAME": [(0, True)], "GNAMES": [(0, False)]})
-    folk = Table("FOLK", [Column("NAME", "C", 4), Column("CITY", "C", 3), Column("AGE", "N", 3), Column("DUE", "D", 8)], [],
+    folk = Table("FOLK", [Column("NAME", "C", 4), Column("CITY", "C", 3), Column("AGE", "N", 3), Column("DUE", "D", 8)],
+                 [],
                  {"FCITY": [(1, False), (0, True)]})
     notes = Table("NOTES", [Column("LINE", "C", 6), Column("QTY", "N", 3)], [], {})
     return {it.name: it for it in (goods, folk, notes)}
@@ -23,7 +24,8 @@ def tables():
 
 def begun():
     """What each program begins with: some variables of each kind."""
-    first = {COUNT: ("is", Num(1, 0)), TEXT: ("is", "Ab"), TRUTH: ("is", True), DATE: ("call", "CTOD", [("is", "01/02/85")])}
+    first = {COUNT: ("is", Num(1, 0)), TEXT: ("is", "Ab"), TRUTH: ("is", True),
+             DATE: ("call", "CTOD", [("is", "01/02/85")])}
     return [("assign", name, e) for kind, e in first.items() for name in NAMES[kind][:BEGUN]]
 
 
@@ -55,7 +57,8 @@ class Maker(Calls):
         return self.files(main)
 
     def find_gone(self):
-        """Notes which names can't be read at the end: those that only procedures have set, and those that have no value.
+        """Notes which names can't be read at the end: those that only procedures have set, and those that have no
+        value.
 
         A procedure may have set one that had no value then, under its own name or under a parameter's."""
         names = self.frame.names
@@ -86,7 +89,8 @@ class Maker(Calls):
         return self.with_others([files[0], *others])
 
     def with_others(self, files):
-        """Adds parts that have the names of others, and are never run: behind them in the files, or main parts of files."""
+        """Adds parts that have the names of others, and are never run: behind them in the files, or main parts of
+        files."""
         nonsense = [("unreached", "? NOWHERE + 1")]
         procedures = [part for file in files for part in file if part is not main_part(file)]
         for part in self.random.sample(procedures, min(len(procedures), self.pick(0, 0, 1, 2))):

@@ -1,7 +1,7 @@
 """Values of the four kinds, and what functions and operators make of them, as docs/PROFILE.md says.
 
-A number is a whole number with decimals, worth m / 10 ** d, or the asterisk value; a text is a str of at most 254 characters; a
-date is a day's number, as Python counts them, or blank."""
+A number is a whole number with decimals, worth m / 10 ** d, or the asterisk value; a text is a str of at most 254
+characters; a date is a day's number, as Python counts them, or blank."""
 
 import datetime
 import re

@@ -1,7 +1,8 @@
 """Files and standard input at each limit and one past it, and what time and memory they take at two sizes.
 
-A case names what is written into a folder, the words, what is typed, and the status and the line of standard error that are
-wanted. The measures run at two sizes, of which one is twice the other: twice the file may take at most three times as long.
+A case names what is written into a folder, the words, what is typed, and the status and the line of standard error that
+are wanted. The measures run at two sizes, of which one is twice the other: twice the file may take at most three times
+as long.
 """
 
 import os
@@ -41,7 +42,8 @@ def run(files, words, typed=b""):
         begun = time.time()
         with open(paths[0], "rb") as given, open(paths[1], "wb") as told:
             spawn = [sys.executable, "-S", "-c", SPAWN, os.path.join(folder, ".used"), DBRUN, *words]
-            status = subprocess.run(spawn, cwd=folder, stdin=given, stdout=subprocess.DEVNULL, stderr=told, check=False).returncode
+            status = subprocess.run(spawn, cwd=folder, stdin=given, stdout=subprocess.DEVNULL, stderr=told,
+                                    check=False).returncode
         seconds = time.time() - begun
         with open(os.path.join(folder, ".used"), encoding="ascii") as used:
             most = int(used.read())
@@ -127,9 +129,11 @@ def sources():
     blocks = lambda count: "IF .T.\n" * count + "? 1\n" + "ENDIF\n" * count
     inside = lambda count: "? " + "(" * count + "1" + ")" * count + "\n"
     line = lambda count: "? 1" + "+1" * ((count - 3) // 2) + " " * ((count - 3) % 2) + "\n"
-    for source, told in ((blocks(32), None), (blocks(33), "line 33 TooDeep"), (inside(32), None), (inside(33), "line 1 TooDeep"),
+    for source, told in ((blocks(32), None), (blocks(33), "line 33 TooDeep"), (inside(32), None),
+                         (inside(33), "line 1 TooDeep"),
                          (line(1024), None), (line(1025), "line 1 TooLong"), ("N" * 10 + " = 1\n", None),
-                         ("N" * 11 + " = 1\n", "line 1 TooLong"), (f'? "{"x" * 254}"\n', None), (f'? "{"x" * 255}"\n', "line 1 TooLong")):
+                         ("N" * 11 + " = 1\n", "line 1 TooLong"), (f'? "{"x" * 254}"\n', None),
+                         (f'? "{"x" * 255}"\n', "line 1 TooLong")):
         yield {"D.DCL": b"", "M.PRG": source.encode()}, ["compile", "D.DCL", "M.XBC", "M.PRG"], told
     for length, told in ((FILE_LIMIT, None), (FILE_LIMIT + 1, "TooLong")):
         yield {"D.DCL": b"*".ljust(length - 1) + b"\n", "M.PRG": b"? 1\n"}, ["compile", "D.DCL", "M.XBC", "M.PRG"], told
@@ -142,7 +146,8 @@ def sources():
         yield {"D.DCL": declared, "M.PRG": b"? 1\n", **shared}, ["compile", "D.DCL", "M.XBC", "M.PRG"], told
     for count, told in ((64, None), (65, "line 66 Limit")):
         declared = ("TABLE T\n" + "".join(f"INDEX I{n} ON T KEY K\n" for n in range(count))).encode()
-        yield {"D.DCL": declared, "M.PRG": b"? 1\n", "T.DBF": texts("K", 1, [])}, ["compile", "D.DCL", "M.XBC", "M.PRG"], told
+        yield {"D.DCL": declared, "M.PRG": b"? 1\n", "T.DBF": texts("K", 1, [])}, ["compile", "D.DCL", "M.XBC",
+                                                                                   "M.PRG"], told
 
 
 def limits():
@@ -169,7 +174,8 @@ def of_rows(count):
 
 def measures(scale):
     """What is measured: a title, the file that counts, the other files, and the words, at a size."""
-    # A constant is sought among those that are there, of which a code has 4,096 at most: with few of them, time goes by the file.
+    # A constant is sought among those that are there, of which a code has 4,096 at most: with few of them, time goes by
+    # the file.
     opened = {"D.DCL": b"TABLE T\nINDEX KI ON T KEY K\n", "M.PRG": b"USE T INDEX KI\n", "T.DBF": texts("K", 10, [])}
     rows = of_rows(20_000 * scale)
     lines = "".join(f"X = {number % 7}\n" for number in range(2_000 * scale)).encode()

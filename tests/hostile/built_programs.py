@@ -1,4 +1,5 @@
-"""Programs built with checks and without proof, in a copy of the repository, the one of the folder program among them."""
+"""Programs built with checks and without proof, in a copy of the repository, the one of the folder program among
+them."""
 
 import glob
 import os
@@ -9,12 +10,13 @@ import sys
 HERE = os.path.dirname(os.path.realpath(__file__))
 TOP = os.path.dirname(os.path.dirname(HERE))
 NAME = "hostile_memory"
-USES = """file_access file_commands code_items xcode xverify machine tagged_machine run_steps ndx_tree dbf_file shape table_files
-    text_lines work_area calendar compile_commands run_commands"""
+USES = """file_access file_commands code_items xcode xverify machine tagged_machine run_steps ndx_tree dbf_file shape
+    table_files text_lines work_area calendar compile_commands run_commands"""
 
 
 def copied(room):
-    """The copy of the crates in the folder, with the program of the folder program as one more; made where it isn't there."""
+    """The copy of the crates in the folder, with the program of the folder program as one more; made where it isn't
+    there."""
     tree = os.path.join(room, "tree")
     if os.path.exists(tree):
         return tree

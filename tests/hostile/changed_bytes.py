@@ -1,4 +1,5 @@
-"""Files cut at every length and changed at every byte: small tables, their indexes, codes, declarations and command files."""
+"""Files cut at every length and changed at every byte: small tables, their indexes, codes, declarations and command
+files."""
 
 import multiprocessing
 import os
@@ -18,7 +19,8 @@ WITH_INDEX = ("a table with an index", "an index")
 
 EVERY_ITEM = Case(
     'X = 2\nUSE T INDEX KI\nSELECT 2\nUSE U INDEX UI, UJ\nSET FILTER TO N > X .AND. .NOT. DELETED()\n'
-    'GO TOP\nDO WHILE .NOT. EOF()\n? N, D, L, C\nSKIP\nENDDO\nACCEPT "? " TO A\nREPLACE C WITH A, D WITH CTOD("02/29/88")\n'
+    'GO TOP\nDO WHILE .NOT. EOF()\n? N, D, L, C\nSKIP\nENDDO\nACCEPT "? " TO A\n'
+    'REPLACE C WITH A, D WITH CTOD("02/29/88")\n'
     'DO P\nSEEK "B"\n? FOUND(), RECNO()\nSELECT 1\n? DATE()\nIF X > 1\nUSE\nENDIF\n? X\n', "", "",
     "TABLE T\nINDEX KI ON T KEY K\nTABLE U\nINDEX UI ON U KEY C\nINDEX UJ ON U KEY UPPER(C)+C\n")
 PROCEDURE = b"SET FILTER TO\nSET ORDER TO 2\nGO BOTTOM\nAPPEND BLANK\nREPLACE N WITH 3, L WITH .T.\nDELETE\nPACK\nRETURN\n"

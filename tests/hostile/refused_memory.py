@@ -24,7 +24,8 @@ FIRST_GROWTH = {
 # The runs of the built program: with no index, with one that is changed, made anew and emptied, and with seven.
 OF_PROGRAM = ("customers outgrow their file", "keys shrink", "records are removed", "a page splits in seven indexes")
 # The other commands over the files behind the last of these runs.
-COMMANDS = (("verify", "M.XBC"), ("code", "M.XBC"), ("list", "S.DBF"), ("index", "S1.NDX"), ("compile", "M.DCL", "M.XBC", "M.PRG"))
+COMMANDS = (("verify", "M.XBC"), ("code", "M.XBC"), ("list", "S.DBF"), ("index", "S1.NDX"),
+            ("compile", "M.DCL", "M.XBC", "M.PRG"))
 
 
 def set_programs(dbrun, memory):
@@ -158,7 +159,8 @@ def refuse_in_program(name):
 
 
 def refuse_in_command(words):
-    """Refuses each request of a command in turn, and then all from each one on: it changes no file, or writes all of it."""
+    """Refuses each request of a command in turn, and then all from each one on: it changes no file, or writes all of
+    it."""
     case, wrong, count = CASES["a page splits in seven indexes"], [], 0
     with tempfile.TemporaryDirectory() as folder:
         put_files(folder, case)
@@ -168,7 +170,8 @@ def refuse_in_command(words):
             refused = lambda number, n=n, on=on: number == n or (on and number > n)
             _, status, out, err = refusing.run(DBRUN, words, folder, b"", refused)
             if status not in (0, 5, 6) or (status == 0 and out != whole) or contents(folder) != old:
-                wrong.append(f"{words}, request {n}{' and on' if on else ''}: status {status} {err} {sorted(contents(folder))}")
+                wrong.append(f"{words}, request {n}{' and on' if on else ''}: status {status} {err} "
+                             f"{sorted(contents(folder))}")
     return wrong, f"{words[0]}, the built program: {count} requests"
 
 

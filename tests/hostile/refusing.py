@@ -1,7 +1,7 @@
 """Runs a program built with checks while one of its requests for memory, or all from one on, is refused.
 
-Every request goes through one of two functions of the program. A breakpoint on their first instruction, which does nothing
-(endbr64), counts them; where one is to be refused, the function answers so at once.
+Every request goes through one of two functions of the program. A breakpoint on their first instruction, which does
+nothing (endbr64), counts them; where one is to be refused, the function answers so at once.
 """
 
 import ctypes
