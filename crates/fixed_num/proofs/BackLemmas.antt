@@ -5,13 +5,14 @@ use Rattle.std.specs.Prelude.{ℤ, pos, negsuc, unsigned_abs, nat_lt, if◌then�
 use Rattle.std.proofs.Math.Nat.{mod-lt, mod-eq_of_lt, div-add-mod', div-le_self, one-le-pow, pow-suc, mul-le-mul_right}
 use Rattle.std.proofs.lemmas.Nat.{mod-mul-add}
 use Rattle.std.proofs.lemmas.List.{reverse-append, reverse-reverse}
-use Rattle.std.proofs.lemmas.Bool.{false≢true, not-true, eqb-true, ne_eqb, lt-ltb}
+use Rattle.std.proofs.lemmas.Bool.{not-true, eqb-true, ne_eqb, lt-ltb}
 use Rattle.std.proofs.lemmas.Bool.Decides.{nat_tests}
 use Rattle.fixed_num.specs.Number.{asterisk, finite, signed, IsInRange, magnitude_limit, most_decimals}
 use Rattle.fixed_num.specs.Arithmetic.{fitted}
 use Rattle.fixed_num.specs.Text.{last_digits, without_zeros, whole_digits, decimals_text, text_of}
 use Rattle.fixed_num.specs.Reading.{without_blanks, trimmed, before_point, after_point, is_digit, are_digits}
 use Rattle.fixed_num.specs.Reading.{with_digits, is_numeral, numeral, unsigned_read, signed_read, parsed}
+use Rattle.fixed_num.specs.Words.{both_true}
 use Rattle.fixed_num.proofs.SignLemmas.{abs_signed}
 use Rattle.fixed_num.proofs.ReadingLemmas.{with_digits-append, fitted_few}
 
@@ -107,10 +108,6 @@ whole_value n small =
 pub no_blanks : List ℕ → Bool
 no_blanks [] = true
 no_blanks (c ∷ cs) = not (c == 32) && no_blanks cs
-
-both_true : (a b : Bool) → (a && b) ≡ true → (a ≡ true) × (b ≡ true)
-both_true true b h = (refl, h)
-both_true false b h = absurd (false≢true h)
 
 no_blanks-append : (xs ys : List ℕ) → no_blanks xs ≡ true → no_blanks ys ≡ true → no_blanks (xs ++ ys) ≡ true
 unfolding no_blanks

@@ -78,7 +78,8 @@ is_same_number asterisk asterisk = true
 is_same_number (finite m d) (finite n e) = int_eq m n && (d == e)
 is_same_number _ _ = false
 
-both_true : (a b : Bool) → (a && b) ≡ true → (a ≡ true) × (b ≡ true)
+-- both are true where their AND is
+pub both_true : (a b : Bool) → (a && b) ≡ true → (a ≡ true) × (b ≡ true)
 both_true true b h = (refl, h)
 both_true false b h = absurd (false≢true h)
 

@@ -1,6 +1,6 @@
 //! The type of a number, its parts and the conversions.
 
-ghost use Rattle.std.specs.Prelude.{◌≡◌, ◌+◌, ◌<◌, ◌≤◌, pos, ◌↔◌, IsTrue, SomeIff, IfSome, MatchOption};
+ghost use Rattle.std.specs.Prelude.{◌≡◌, ◌+◌, ◌<◌, ◌≤◌, pos, ◌↔◌, IsTrue, SomeIff, IfSome, MatchOption, ◌*◌, ◌-◌, ◌^◌};
 ghost use Rattle.std.specs.Prelude.{if◌then◌else◌};
 ghost use Rattle.fixed_num.specs.Number.{number, number_of, signed, AreParts, IsFraction, finite, asterisk};
 ghost use Rattle.fixed_num.specs.Number.{magnitude_limit, IsLonger, IsPair};
@@ -263,7 +263,8 @@ impl Parts {
     pub(crate) fn longer(self, decimals: u8) -> Option<Parts>
         requires few { decimals ≤ 15 }
         requires more { self.decimals ≤ decimals }
-        ensures { IfSome result (IsLonger self decimals) }
+        ensures { MatchOption result (2 ^ 64 ≤ self.magnitude * 10 ^ (decimals - self.decimals))
+            (IsLonger self decimals) }
     {
         let magnitude = lengthened(self.magnitude, decimals - self.decimals)?;
         Some(Parts {

@@ -1,6 +1,6 @@
 //! Powers of ten, and whole numbers with more decimals or fewer.
 
-ghost use Rattle.std.specs.Prelude.{◌≡◌, ◌*◌, ◌/◌, ◌^◌, ◌<◌, ◌≤◌, unsigned_abs, IfSome};
+ghost use Rattle.std.specs.Prelude.{◌≡◌, ◌*◌, ◌/◌, ◌^◌, ◌<◌, ◌≤◌, unsigned_abs, MatchOption};
 ghost use Rattle.fixed_num.specs.Number.{scaled};
 
 /// 10^0 to 10^19.
@@ -52,7 +52,7 @@ pub(crate) fn scaled(numerator: i128, places: u8) -> i128
 #[inline(always)]
 pub(crate) fn lengthened(magnitude: u64, places: u8) -> Option<u64>
     requires { places ≤ 19 }
-    ensures { IfSome result (λ longer. longer ≡ magnitude * 10 ^ places) }
+    ensures { MatchOption result (2 ^ 64 ≤ magnitude * 10 ^ places) (λ longer. longer ≡ magnitude * 10 ^ places) }
 {
     magnitude.checked_mul(power_of_ten(places))
 }
