@@ -1,10 +1,13 @@
 //! What a function gives of values.
 
-ghost use Rattle.std.specs.Prelude.{◌≤◌, [], ◌∷◌, IfSome, length};
+ghost use Rattle.std.specs.Prelude.{◌≡◌, ◌≤◌, ◌↔◌, ◌⊎◌, [], ◌∷◌, IsSome, IfSome, length};
+ghost use Rattle.xvalue.specs.declared.fun.Fun.TheVariants.{Left, Right, Trim, Ltrim};
+ghost use Rattle.xvalue.specs.declared.kind.Kind.TheVariants.{Number as OfNumber, Text as OfText, Date as OfDate};
+ghost use Rattle.xvalue.specs.declared.kind.Kind.TheVariants.{Logical as OfLogical};
 ghost use Rattle.xvalue.specs.declared.settings.Settings.{Settings as AnySettings};
 ghost use Rattle.xvalue.specs.declared.value.Value.TheVariants.{Number as IsNumber, Text as IsText};
 ghost use Rattle.xvalue.specs.declared.value.Value.TheVariants.{Date as IsDate, Logical as IsLogical};
-ghost use Rattle.run_values.specs.Calling.{IsGiven};
+ghost use Rattle.run_values.specs.Calling.{IsGiven, HasSignature};
 
 use calendar::Day;
 use fixed_num::{Num, without_blanks, without_last_blanks};
@@ -16,8 +19,9 @@ use xvalue::{
 
 /// The number that a function gives of two numbers; none of another function.
 pub fn number_of_numbers(fun: Fun, first: Num, second: Num) -> Option<Num>
-    ensures { (settings : AnySettings) → IfSome result (λ number.
+    ensures given { (settings : AnySettings) → IfSome result (λ number.
         IsGiven fun settings (IsNumber first ∷ IsNumber second ∷ []) (IsNumber number)) }
+    ensures some { IsSome result ↔ HasSignature fun (OfNumber ∷ OfNumber ∷ []) OfNumber }
 {
     use Fun::*;
 
@@ -30,8 +34,9 @@ pub fn number_of_numbers(fun: Fun, first: Num, second: Num) -> Option<Num>
 /// Whether a comparison of two numbers holds; none of another function.
 #[inline(always)]
 pub fn truth_of_numbers(fun: Fun, first: Num, second: Num) -> Option<bool>
-    ensures { (settings : AnySettings) → IfSome result (λ truth.
+    ensures given { (settings : AnySettings) → IfSome result (λ truth.
         IsGiven fun settings (IsNumber first ∷ IsNumber second ∷ []) (IsLogical truth)) }
+    ensures some { IsSome result ↔ HasSignature fun (OfNumber ∷ OfNumber ∷ []) OfLogical }
 {
     match fun {
         Fun::NumberEq | Fun::NumberLess | Fun::NumberGreater => {
@@ -44,8 +49,9 @@ pub fn truth_of_numbers(fun: Fun, first: Num, second: Num) -> Option<bool>
 /// Whether a comparison of two texts holds, or the first stands in the second; none of another function.
 #[tactic(auto, unfolding(xvalue::specs::Functions::applied))]
 pub fn truth_of_texts(fun: Fun, settings: Settings, first: &[u8], second: &[u8]) -> Option<bool>
-    ensures { IfSome result (λ truth. IsGiven fun settings
+    ensures given { IfSome result (λ truth. IsGiven fun settings
         (IsText (record { items = first.now }) ∷ IsText (record { items = second.now }) ∷ []) (IsLogical truth)) }
+    ensures some { IsSome result ↔ HasSignature fun (OfText ∷ OfText ∷ []) OfLogical }
 {
     match fun {
         Fun::TextEq => Some(eq_text(first, second, settings.exact)),
@@ -59,8 +65,9 @@ pub fn truth_of_texts(fun: Fun, settings: Settings, first: &[u8], second: &[u8])
 /// Whether a comparison of two dates holds; none of another function.
 #[tactic(auto, unfolding(xvalue::specs::Functions::applied))]
 pub fn truth_of_dates(fun: Fun, first: Day, second: Day) -> Option<bool>
-    ensures { (settings : AnySettings) → IfSome result (λ truth.
+    ensures given { (settings : AnySettings) → IfSome result (λ truth.
         IsGiven fun settings (IsDate first ∷ IsDate second ∷ []) (IsLogical truth)) }
+    ensures some { IsSome result ↔ HasSignature fun (OfDate ∷ OfDate ∷ []) OfLogical }
 {
     match fun {
         Fun::DateEq => Some(first.is(second)),
@@ -73,8 +80,9 @@ pub fn truth_of_dates(fun: Fun, first: Day, second: Day) -> Option<bool>
 /// The number that a function gives of two dates; none of another function.
 #[tactic(auto, unfolding(xvalue::specs::Functions::applied))]
 pub fn number_of_dates(fun: Fun, first: Day, second: Day) -> Option<Num>
-    ensures { (settings : AnySettings) → IfSome result (λ number.
+    ensures given { (settings : AnySettings) → IfSome result (λ number.
         IsGiven fun settings (IsDate first ∷ IsDate second ∷ []) (IsNumber number)) }
+    ensures some { IsSome result ↔ HasSignature fun (OfDate ∷ OfDate ∷ []) OfNumber }
 {
     match fun {
         Fun::DateDiff => Some(first.days_since(second)),
@@ -85,8 +93,9 @@ pub fn number_of_dates(fun: Fun, first: Day, second: Day) -> Option<Num>
 /// The date that a function gives of a date and a number; none of another function.
 #[tactic(auto, unfolding(xvalue::specs::Functions::applied))]
 pub fn date_moved(fun: Fun, date: Day, number: Num) -> Option<Day>
-    ensures { (settings : AnySettings) → IfSome result (λ moved.
+    ensures given { (settings : AnySettings) → IfSome result (λ moved.
         IsGiven fun settings (IsDate date ∷ IsNumber number ∷ []) (IsDate moved)) }
+    ensures some { IsSome result ↔ HasSignature fun (OfDate ∷ OfNumber ∷ []) OfDate }
 {
     match fun {
         Fun::DateAdd => Some(date.plus(number)),
@@ -99,8 +108,9 @@ pub fn date_moved(fun: Fun, date: Day, number: Num) -> Option<Day>
 #[inline(always)]
 #[tactic(auto, unfolding(xvalue::specs::Functions::applied))]
 pub fn truth_of_truths(fun: Fun, first: bool, second: bool) -> Option<bool>
-    ensures { (settings : AnySettings) → IfSome result (λ truth.
+    ensures given { (settings : AnySettings) → IfSome result (λ truth.
         IsGiven fun settings (IsLogical first ∷ IsLogical second ∷ []) (IsLogical truth)) }
+    ensures some { IsSome result ↔ HasSignature fun (OfLogical ∷ OfLogical ∷ []) OfLogical }
 {
     match fun {
         Fun::And => Some(first && second),
@@ -113,8 +123,9 @@ pub fn truth_of_truths(fun: Fun, first: bool, second: bool) -> Option<bool>
 #[inline(always)]
 #[tactic(auto, unfolding(xvalue::specs::Functions::applied))]
 pub fn truth_of_truth(fun: Fun, given: bool) -> Option<bool>
-    ensures { (settings : AnySettings) → IfSome result (λ truth.
+    ensures given { (settings : AnySettings) → IfSome result (λ truth.
         IsGiven fun settings (IsLogical given ∷ []) (IsLogical truth)) }
+    ensures some { IsSome result ↔ HasSignature fun (OfLogical ∷ []) OfLogical }
 {
     match fun {
         Fun::Not => Some(!given),
@@ -125,8 +136,9 @@ pub fn truth_of_truth(fun: Fun, given: bool) -> Option<bool>
 /// The number that a function gives of a number; none of another function.
 #[tactic(auto, unfolding(xvalue::specs::Functions::applied))]
 pub fn number_of_number(fun: Fun, given: Num) -> Option<Num>
-    ensures { (settings : AnySettings) → IfSome result (λ number.
+    ensures given { (settings : AnySettings) → IfSome result (λ number.
         IsGiven fun settings (IsNumber given ∷ []) (IsNumber number)) }
+    ensures some { IsSome result ↔ HasSignature fun (OfNumber ∷ []) OfNumber }
 {
     match fun {
         Fun::Neg => Some(given.neg()),
@@ -139,8 +151,9 @@ pub fn number_of_number(fun: Fun, given: Num) -> Option<Num>
 /// The number that a function gives of a date; none of another function.
 #[tactic(auto, unfolding(xvalue::specs::Functions::applied))]
 pub fn number_of_date(fun: Fun, date: Day) -> Option<Num>
-    ensures { (settings : AnySettings) → IfSome result (λ number.
+    ensures given { (settings : AnySettings) → IfSome result (λ number.
         IsGiven fun settings (IsDate date ∷ []) (IsNumber number)) }
+    ensures some { IsSome result ↔ HasSignature fun (OfDate ∷ []) OfNumber }
 {
     match fun {
         Fun::Day => Some(Num::from(u32::from(date.day()))),
@@ -154,8 +167,9 @@ pub fn number_of_date(fun: Fun, date: Day) -> Option<Num>
 /// CTOD of a text; none of another function.
 #[tactic(auto, unfolding(xvalue::specs::Functions::applied))]
 pub fn date_of_text(fun: Fun, text: &[u8]) -> Option<Day>
-    ensures { (settings : AnySettings) → IfSome result (λ date.
+    ensures given { (settings : AnySettings) → IfSome result (λ date.
         IsGiven fun settings (IsText (record { items = text.now }) ∷ []) (IsDate date)) }
+    ensures some { IsSome result ↔ HasSignature fun (OfText ∷ []) OfDate }
 {
     match fun {
         Fun::Ctod => Some(Day::read(text)),
@@ -170,6 +184,7 @@ pub fn part_of_text(fun: Fun, text: &[u8]) -> Option<&[u8]>
     ensures given { (settings : AnySettings) → IfSome result (λ part.
         IsGiven fun settings (IsText (record { items = text.now }) ∷ []) (IsText (record { items = part.now }))) }
     ensures short { IfSome result (λ part. length part.now ≤ 254) }
+    ensures some { IsSome result ↔ ((fun ≡ Trim) ⊎ (fun ≡ Ltrim)) }
 {
     match fun {
         Fun::Trim => Some(without_last_blanks(text)),
@@ -185,6 +200,7 @@ pub fn end_of_text(fun: Fun, text: &[u8], count: Num) -> Option<&[u8]>
     ensures given { (settings : AnySettings) → IfSome result (λ part. IsGiven fun settings
         (IsText (record { items = text.now }) ∷ IsNumber count ∷ []) (IsText (record { items = part.now }))) }
     ensures short { IfSome result (λ part. length part.now ≤ 254) }
+    ensures some { IsSome result ↔ ((fun ≡ Left) ⊎ (fun ≡ Right)) }
 {
     match fun {
         Fun::Left => Some(front(text, count_of(count))),
@@ -201,6 +217,7 @@ pub fn piece_of_text(fun: Fun, text: &[u8], place: Num, count: Num) -> Option<&[
         (IsText (record { items = text.now }) ∷ IsNumber place ∷ IsNumber count ∷ [])
         (IsText (record { items = part.now }))) }
     ensures short { IfSome result (λ part. length part.now ≤ 254) }
+    ensures some { IsSome result ↔ HasSignature fun (OfText ∷ OfNumber ∷ OfNumber ∷ []) OfText }
 {
     match fun {
         Fun::Substr => Some(part_from(text, count_of(place), count_of(count))),
@@ -212,8 +229,9 @@ pub fn piece_of_text(fun: Fun, text: &[u8], place: Num, count: Num) -> Option<&[
 #[tactic(auto, unfolding(xvalue::specs::Functions::applied))]
 pub fn number_of_text(fun: Fun, text: &[u8]) -> Option<Num>
     requires { length text.now ≤ 254 }
-    ensures { (settings : AnySettings) → IfSome result (λ number.
+    ensures given { (settings : AnySettings) → IfSome result (λ number.
         IsGiven fun settings (IsText (record { items = text.now }) ∷ []) (IsNumber number)) }
+    ensures some { IsSome result ↔ HasSignature fun (OfText ∷ []) OfNumber }
 {
     match fun {
         Fun::Len => Some(Num::from(text.len() as u32)),
@@ -227,8 +245,9 @@ pub fn number_of_text(fun: Fun, text: &[u8]) -> Option<Num>
 #[tactic(auto, unfolding(xvalue::specs::Functions::applied))]
 pub fn number_of_texts(fun: Fun, first: &[u8], second: &[u8]) -> Option<Num>
     requires { length second.now ≤ 254 }
-    ensures { (settings : AnySettings) → IfSome result (λ number. IsGiven fun settings
+    ensures given { (settings : AnySettings) → IfSome result (λ number. IsGiven fun settings
         (IsText (record { items = first.now }) ∷ IsText (record { items = second.now }) ∷ []) (IsNumber number)) }
+    ensures some { IsSome result ↔ HasSignature fun (OfText ∷ OfText ∷ []) OfNumber }
 {
     match fun {
         Fun::At => Some(Num::from(place_of(first, second) as u32)),
@@ -239,8 +258,9 @@ pub fn number_of_texts(fun: Fun, first: &[u8], second: &[u8]) -> Option<Num>
 /// Whether a text begins as a function asks; none of another function.
 #[tactic(auto, unfolding(xvalue::specs::Functions::applied))]
 pub fn truth_of_text(fun: Fun, text: &[u8]) -> Option<bool>
-    ensures { (settings : AnySettings) → IfSome result (λ truth.
+    ensures given { (settings : AnySettings) → IfSome result (λ truth.
         IsGiven fun settings (IsText (record { items = text.now }) ∷ []) (IsLogical truth)) }
+    ensures some { IsSome result ↔ HasSignature fun (OfText ∷ []) OfLogical }
 {
     match fun {
         Fun::IsAlpha => Some(begins_with_letter(text)),
