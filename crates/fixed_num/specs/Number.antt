@@ -5,6 +5,7 @@ use Rattle.std.specs.Prelude.{if◌then◌else◌, Option, Some, None}
 use Rattle.fixed_num.specs.declared.number.Parts.{Parts}
 use Rattle.fixed_num.specs.declared.number.Fraction.{Fraction}
 use Rattle.fixed_num.specs.declared.number.Pair.{Pair}
+use Rattle.fixed_num.specs.declared.number.Above.{Above}
 
 -- the asterisk value, or `m / 10 ^ d`
 pub data Number : Type 0 where
@@ -61,6 +62,15 @@ pub record IsPair (x y : Number) (pair : Pair) : Type 0 where
   pub first_fits : pair.first < magnitude_limit
   pub second_fits : pair.second < magnitude_limit
   pub decimals_fit : pair.decimals ≤ most_decimals
+
+-- neither number is below zero
+pub record AreAbove (x y : Number) (both : Above) : Type 0 where
+  pub first : x ≡ finite (pos both.first) both.first_decimals
+  pub second : y ≡ finite (pos both.second) both.second_decimals
+  pub first_fits : both.first < magnitude_limit
+  pub second_fits : both.second < magnitude_limit
+  pub first_short : both.first_decimals ≤ most_decimals
+  pub second_short : both.second_decimals ≤ most_decimals
 
 -- the numerator and the decimals of a number
 pub record IsFraction (x : Number) (fraction : Fraction) : Type 0 where

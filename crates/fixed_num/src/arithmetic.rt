@@ -58,21 +58,6 @@ fn sum_in_two_words(first: Num, second: Num) -> Num
     Num::from_fraction(left + right, decimals)
 }
 
-/// The product of two numbers of which neither is below zero, where it has at most 15 decimals and its digits take one
-/// word. Most products are such; it takes one multiplication.
-#[inline(always)]
-fn short_product(first: Num, second: Num) -> Option<Num>
-    ensures { IfSome result (λ product. product ≡ product_of first second) }
-{
-    let a = first.parts()?;
-    let b = second.parts()?;
-    if a.negative || b.negative || a.decimals + b.decimals > MOST_DECIMALS {
-        return None;
-    }
-    let magnitude = a.magnitude.checked_mul(b.magnitude)?;
-    Some(Num::from_word(false, magnitude, a.decimals + b.decimals))
-}
-
 /// The product of any two numbers. (Apart, as the sum of any two is.)
 #[inline(never)]
 fn product_of_any(first: Num, second: Num) -> Num
@@ -98,15 +83,14 @@ fn product_of_any(first: Num, second: Num) -> Num
 fn short_quotient(first: Num, second: Num) -> Option<Num>
     ensures { IfSome result (λ quotient. quotient ≡ quotient_of first second) }
 {
-    let a = first.parts()?;
-    let b = second.parts()?;
-    let decimals = a.decimals.max(b.decimals).max(2);
-    let places = decimals - a.decimals + b.decimals;
-    if a.negative || b.negative || b.magnitude == 0 || places > 19 {
+    let both = first.above(&second)?;
+    let decimals = both.first_decimals.max(both.second_decimals).max(2);
+    let places = decimals - both.first_decimals + both.second_decimals;
+    if both.second == 0 || places > 19 {
         return None;
     }
-    let dividend = lengthened(a.magnitude, places)?;
-    let kept = nearest(u128::from(dividend), u128::from(b.magnitude));
+    let dividend = lengthened(both.first, places)?;
+    let kept = nearest(u128::from(dividend), u128::from(both.second));
     Some(Num::from_magnitude(false, kept, decimals))
 }
 
@@ -266,7 +250,7 @@ impl Num {
     pub fn mul(self, other: Num) -> Num
         ensures { result ≡ product_of self other }
     {
-        if let Some(product) = short_product(self, other) {
+        if let Some(product) = self.short_product(&other) {
             return product;
         }
         product_of_any(self, other)

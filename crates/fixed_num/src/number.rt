@@ -3,8 +3,8 @@
 ghost use Rattle.std.specs.Prelude.{◌≡◌, ◌+◌, ◌<◌, ◌≤◌, pos, ◌↔◌, IsTrue, SomeIff, IfSome, MatchOption, ◌*◌, ◌-◌, ◌^◌};
 ghost use Rattle.std.specs.Prelude.{if◌then◌else◌};
 ghost use Rattle.fixed_num.specs.Number.{number, number_of, signed, AreParts, IsFraction, finite, asterisk};
-ghost use Rattle.fixed_num.specs.Number.{magnitude_limit, IsLonger, IsPair};
-ghost use Rattle.fixed_num.specs.Arithmetic.{AreAlike, sum_of};
+ghost use Rattle.fixed_num.specs.Number.{magnitude_limit, IsLonger, IsPair, AreAbove};
+ghost use Rattle.fixed_num.specs.Arithmetic.{AreAlike, sum_of, product_of};
 
 use crate::powers::lengthened;
 use std::marker::Model;
@@ -193,6 +193,39 @@ impl Num {
         })
     }
 
+    /// Both numbers with their decimals, where neither is below zero.
+    #[inline(always)]
+    pub(crate) fn above(&self, other: &Num) -> Option<Above>
+        ensures { IfSome result (AreAbove self.now other.now) }
+    {
+        if self.form >= BELOW_ZERO || other.form >= BELOW_ZERO {
+            return None;
+        }
+        Some(Above {
+            first: self.magnitude,
+            second: other.magnitude,
+            first_decimals: self.form as u8,
+            second_decimals: other.form as u8,
+        })
+    }
+
+    /// The product of two numbers of which neither is below zero, where it has at most 15 decimals and 19 digits. Most
+    /// products are such; it takes one multiplication.
+    #[inline(always)]
+    pub(crate) fn short_product(&self, other: &Num) -> Option<Num>
+        ensures { IfSome result (λ product. product ≡ product_of self.now other.now) }
+    {
+        if self.form >= BELOW_ZERO || other.form >= BELOW_ZERO {
+            return None;
+        }
+        let form = self.form + other.form;
+        let magnitude = self.magnitude.checked_mul(other.magnitude)?;
+        if form > u64::from(MOST_DECIMALS) || magnitude >= MAGNITUDE_LIMIT {
+            return None;
+        }
+        Some(Num { magnitude, form })
+    }
+
     /// Whether two numbers have one sign and as many decimals, and their magnitudes together at most 19 digits.
     #[inline(always)]
     pub(crate) fn is_alike(&self, other: &Num) -> bool
@@ -322,6 +355,17 @@ pub(crate) struct Pair {
     /// The magnitude of the second.
     pub(crate) second: u64,
     pub(crate) decimals: u8,
+}
+
+/// Two numbers, neither of which is below zero.
+#[derive(Clone, Copy)]
+pub(crate) struct Above {
+    /// The magnitude of the first.
+    pub(crate) first: u64,
+    /// The magnitude of the second.
+    pub(crate) second: u64,
+    pub(crate) first_decimals: u8,
+    pub(crate) second_decimals: u8,
 }
 
 /// Zero, without decimals.
