@@ -155,11 +155,6 @@ impl Values for Tagged {
         self.values.held_truth(operand)
     }
 
-    fn set_number(&mut self, slot: usize, number: Num) {
-        self.values.set_number(slot, number);
-        self.slots[slot] = Some(Kind::Number);
-    }
-
     fn load(&mut self, kind: Kind, slot: usize) {
         self.values.load(kind, slot);
         self.stack.push(kind);

@@ -6,7 +6,8 @@ ghost use Rattle.xvalue.specs.declared.value.Value.TheVariants.{Number as IsNumb
 ghost use Rattle.run_values.specs.Tagged.{TaggedValues, HasOnTop, HasArguments, HoldsKind, pushed, dropped, with_slot};
 ghost use Rattle.run_values.specs.Tagged.{loaded, stored, called};
 ghost use Rattle.run_values.specs.Operands.{RegisterState, HoldsConstants, sources_of, NumberThere, TruthThere};
-ghost use Rattle.run_values.specs.Operands.{number_of_operand, truth_of_operand};
+ghost use Rattle.run_values.specs.Operands.{number_of_operand, truth_of_operand, source_at, HasPlace};
+ghost use Rattle.run_values.specs.Operands.{values_with, registers_with};
 
 use crate::lent::Lent;
 use crate::operands::Operand;
@@ -110,13 +111,6 @@ pub trait Values: Drop {
         ensures { (t : TaggedValues) → stands self.now t → TruthThere operand (sources_of t (registers self.now))
             → IsLogical result ≡ truth_of_operand operand (sources_of t (registers self.now)) };
 
-    /// Puts a number into the slot, which is there.
-    fn set_number(&mut self, slot: usize, number: Num)
-        requires { (t : TaggedValues) × (stands self.old t × (slot < length t.slots)) }
-        ensures stands { (t : TaggedValues) → stands self.old t
-            → stands self.new (with_slot slot (Some (IsNumber number)) t) }
-        ensures registers { registers self.new ≡ registers self.old };
-
     /// Puts what the slot holds, which is of this kind, on the stack.
     fn load(&mut self, kind: Kind, slot: usize)
         requires { (t : TaggedValues)
@@ -155,6 +149,15 @@ pub trait Registered: Values {
         ensures registers { Self.registers self.new ≡ record (Self.registers self.old) {
           numbers = slice_set (Self.registers self.old).numbers register number;
         } };
+
+    /// Puts a number into a slot or a register, which is there.
+    fn put_number(&mut self, to: Operand, number: Num)
+        requires { (t : TaggedValues) × (Self.stands self.old t
+            × HasPlace (source_at to.place) (sources_of t (Self.registers self.old))) }
+        ensures stands { (t : TaggedValues) → Self.stands self.old t
+            → Self.stands self.new (values_with (source_at to.place) number t) }
+        ensures registers { Self.registers self.new
+            ≡ registers_with (source_at to.place) number (Self.registers self.old) };
 
     /// Puts a truth value into a register, which is there.
     fn set_truth_register(&mut self, register: usize, truth: bool)
