@@ -54,7 +54,7 @@ impl Stop {
 
 /// How a run ends whose next instruction finishes it, behind steps of this cost: spent, where nothing is left of the
 /// budget to pay for that instruction.
-pub(crate) fn finishing(steps: u64, budget: u64) -> Outcome
+pub fn finishing(steps: u64, budget: u64) -> Outcome
     requires { steps ≤ budget }
     ensures spent { budget ≤ steps → result ≡ record { end = IsSpent; steps = steps } }
     ensures finished { steps < budget → result ≡ record { end = IsFinished; steps = steps + 1 } }

@@ -23,7 +23,7 @@ mod row_works;
 pub mod running;
 
 pub use decoding::Decoded;
-pub use ending::{End, Outcome, Stop};
+pub use ending::{End, Outcome, Stop, finishing};
 pub use environment::Environment;
 pub use fault::FaultKind;
 pub use machine::{Machine, execute};

@@ -1,6 +1,6 @@
 //! Instructions on records.
 
-ghost use Rattle.std.specs.Prelude.{◌≡◌, ◌≤◌, ℕ, Bool, List, IfSome, IsSome, MatchBool};
+ghost use Rattle.std.specs.Prelude.{◌≡◌, ◌≤◌, ℕ, Bool, List, IfSome, IsSome};
 ghost use Rattle.std.specs.Fn.{FnReturnsAt};
 ghost use Rattle.dbf_file.specs.Rows.{Row as TheRow};
 ghost use Rattle.dbf_file.specs.Tables.{StructureState, letter_at};
@@ -15,8 +15,8 @@ ghost use Rattle.run_values.specs.Tagged.{TaggedValues, pushed};
 ghost use Rattle.run_steps.specs.Effects.{answer as answer_of, index_in, closing_store, closing_met};
 ghost use Rattle.run_steps.specs.Executed.{Executed};
 ghost use Rattle.run_steps.specs.Filters.{viewing, shown_by, filter_block, is_visible as visible, RunsOnRows};
-ghost use Rattle.run_steps.specs.Needs.{FilterNeeds, HasField, TakesField, RecordNeeds, ClosingNeeds, IsClosing};
-ghost use Rattle.run_steps.specs.Needs.{IsPlain, HasRoom, FitsThere, Walks};
+ghost use Rattle.run_steps.specs.Needs.{FilterNeeds, HasField, TakesField, RecordNeeds, ClosingNeeds};
+ghost use Rattle.run_steps.specs.Needs.{HasRoom, FitsThere, Walks, closing_instr};
 ghost use Rattle.run_steps.specs.RowWorks.{IsRowWork, AreRowWorks};
 ghost use Rattle.run_steps.specs.Walking.{HasChanged, HasReplaced, ShowsAll};
 
@@ -143,37 +143,43 @@ fn replace<V: Values, K: KeyList>(
     }
 }
 
+/// A change that ends with TOP.
+#[derive(Clone, Copy)]
+pub enum Closing {
+    Pack,
+    Zap,
+    Reindex,
+    Index(u16),
+}
+
 /// A change that ends with TOP, with a test of what is visible.
 fn close_with<K: KeyList, F: Fn(&Row<'_>) -> bool>(
     alloc: Global,
     code: &Code,
     store: &mut Store<K>,
-    instr: RecordInstr,
+    closing: Closing,
     see: F,
     left: u64,
 ) -> Result<u64, Stop>
     requires open { IsSome (here store.old) }
-    requires needs { ClosingNeeds code.now instr store.old }
-    requires closes { IsClosing instr }
+    requires needs { ClosingNeeds code.now (closing_instr closing) store.old }
     requires callable { F.IsAlwaysCallable see }
     ensures { IfSome (here store.old) (λ o. (shown : StructureState → List TheRow → ℕ → Bool)
         → ShowsAll (FnReturnsAt F.Fn) see o.table.structure shown
-        → HasChanged (closing_store code.now.declared instr shown o store.old)
-        (closing_met code.now.declared instr shown o) store.old left result store.new) }
+        → HasChanged (closing_store code.now.declared (closing_instr closing) shown o store.old)
+        (closing_met code.now.declared (closing_instr closing) shown o) store.old left result store.new) }
 {
-    match instr {
-        RecordInstr::Pack => refused(store.pack(alloc, see, left)),
-        RecordInstr::Zap => refused(store.zap(alloc, see, left)),
-        RecordInstr::Reindex => refused(store.reindex(alloc, see, left)),
-        RecordInstr::Index(list) => refused(store.index_on(
+    match closing {
+        Closing::Pack => refused(store.pack(alloc, see, left)),
+        Closing::Zap => refused(store.zap(alloc, see, left)),
+        Closing::Reindex => refused(store.reindex(alloc, see, left)),
+        Closing::Index(list) => refused(store.index_on(
             alloc,
             u32::from(list),
             index_of(code, list),
             see,
             left,
         )),
-        // Only instructions that end with TOP are handed in, and there are no others.
-        _ => unreachable!(),
     }
 }
 
@@ -182,29 +188,28 @@ fn look_and_close<V: Values, K: KeyList>(
     alloc: Global,
     view: &View<'_, V>,
     store: &mut Store<K>,
-    instr: RecordInstr,
+    closing: Closing,
     left: u64,
 ) -> Result<u64, Stop>
     requires block { view.now.block.now ≡ filter_block view.now.code.now view.now.filter }
     requires work { IfSome view.now.work (λ work. IsRowWork view.now.code.now view.now.block.now work.now) }
     requires open { IsSome (here store.old) }
-    requires needs { ClosingNeeds view.now.code.now instr store.old }
-    requires closes { IsClosing instr }
+    requires needs { ClosingNeeds view.now.code.now (closing_instr closing) store.old }
     requires filter { (t : TaggedValues)
         × (V.stands view.now.values.now t × FilterNeeds view.now.code.now t view.now.filter) }
     ensures { (t : TaggedValues) → V.stands view.now.values.now t → FilterNeeds view.now.code.now t view.now.filter
         → FitsThere view.now.code.now (viewing t view.now.moment) view.now.filter (here store.old)
         → IfSome (here store.old) (λ o. HasChanged
-        (closing_store view.now.code.now.declared instr
+        (closing_store view.now.code.now.declared (closing_instr closing)
         (shown_by view.now.code.now (viewing t view.now.moment) view.now.filter) o store.old)
-        (closing_met view.now.code.now.declared instr
+        (closing_met view.now.code.now.declared (closing_instr closing)
         (shown_by view.now.code.now (viewing t view.now.moment) view.now.filter) o) store.old left result store.new) }
 {
     close_with(
         alloc,
         view.code,
         store,
-        instr,
+        closing,
         |row: &Row<'_>| -> bool
             requires block { view.now.block.now ≡ filter_block view.now.code.now view.now.filter }
             requires work { IfSome view.now.work (λ work. IsRowWork view.now.code.now view.now.block.now work.now) }
@@ -227,19 +232,18 @@ fn close<V: Values, K: KeyList>(
     filters: &FilterWorks,
     values: &V,
     env: &mut Environment<K>,
-    instr: RecordInstr,
+    closing: Closing,
     left: u64,
 ) -> Result<u64, Stop>
     requires legal { IsCode code.now }
     requires filters { AreRowWorks code.now filters.now }
-    requires closes { IsClosing instr }
-    requires closing { ClosingNeeds code.now instr env.old.store }
+    requires closing { ClosingNeeds code.now (closing_instr closing) env.old.store }
     requires needs { (t : TaggedValues) × (V.stands values.now t × Walks code.now t env.old) }
     ensures { (t : TaggedValues) → V.stands values.now t → Walks code.now t env.old
-        → Executed code.now (OfRecords instr) t env.old left result (V.stands values.now) env.new }
+        → Executed code.now (OfRecords (closing_instr closing)) t env.old left result (V.stands values.now) env.new }
 {
     let view = View::new(code, filters, values, env.moment(), env.filter_here());
-    look_and_close(alloc, &view, &mut env.store, instr, left)
+    look_and_close(alloc, &view, &mut env.store, closing, left)
 }
 
 /// Carries out an instruction on records.
@@ -260,42 +264,34 @@ pub fn on_records<V: Values, K: KeyList>(
         → Executed code.now (OfRecords instr) t env.old left result (V.stands values.new) env.new }
     ensures registers { V.registers values.new ≡ V.registers values.old }
 {
-    if closes(instr) {
-        return close(alloc, code, filters, values, env, instr, left);
-    }
     if left == 0 {
         return Err(Stop::Spent);
     }
-    match instr {
+    let closing = match instr {
         RecordInstr::Field { area, field } => {
             push_field(values, &env.store, area, field);
-            Ok(1)
+            return Ok(1);
         }
         RecordInstr::Ask(question) => {
             push_answer(values, &env.store, question);
-            Ok(1)
+            return Ok(1);
         }
-        RecordInstr::Append => append(values, env),
-        RecordInstr::Replace(field) => replace(values, &mut env.store, field),
+        RecordInstr::Append => return append(values, env),
+        RecordInstr::Replace(field) => return replace(values, &mut env.store, field),
         RecordInstr::Delete => {
             env.store.delete();
-            Ok(1)
+            return Ok(1);
         }
         RecordInstr::Recall => {
             env.store.recall();
-            Ok(1)
+            return Ok(1);
         }
-        // The others end with TOP, and were carried out above.
-        _ => unreachable!(),
-    }
-}
-
-/// Whether an instruction ends with TOP.
-fn closes(instr: RecordInstr) -> bool
-    ensures { MatchBool result (IsClosing instr) (IsPlain instr) }
-{
-    match instr {
-        RecordInstr::Pack | RecordInstr::Zap | RecordInstr::Reindex | RecordInstr::Index(_) => true,
-        _ => false,
-    }
+        RecordInstr::Pack => Closing::Pack,
+        RecordInstr::Zap => Closing::Zap,
+        RecordInstr::Reindex => Closing::Reindex,
+        RecordInstr::Index(list) => Closing::Index(list),
+        // A filter's instruction is carried out with the filter.
+        RecordInstr::RowField(_) => unreachable!(),
+    };
+    close(alloc, code, filters, values, env, closing, left)
 }

@@ -23,7 +23,7 @@ use run_laws::laws::{
     safe_runs_meet_no_fault, steps_keep_the_shape,
 };
 use run_steps::running::finishes;
-use run_steps::{End, FilterWorks, Machine, Outcome, execute};
+use run_steps::{End, FilterWorks, Machine, Outcome, execute, finishing};
 use run_values::Tagged;
 use std::alloc::Global;
 
@@ -57,14 +57,7 @@ fn run_on<K: KeyList>(
             return Outcome { end, steps };
         }
         if finishes(&machine.returns, instr) {
-            if steps == budget {
-                let end = End::Spent;
-                return Outcome { end, steps };
-            }
-            return Outcome {
-                end: End::Finished,
-                steps: steps + 1,
-            };
+            return finishing(steps, budget);
         }
         match execute(alloc, code, &filters, machine, instr, budget - steps) {
             Ok(cost) => {

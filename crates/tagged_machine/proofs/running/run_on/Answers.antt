@@ -1,4 +1,5 @@
-use Rattle.std.proofs.Common.{◌≡◌, ◌<◌, length, refl, sym, ap, subst, ◌∙◌, arith}
+use Rattle.std.proofs.Common.{◌≡◌, ◌<◌, length, refl, sym, ap, subst, ◌∙◌, arith, ⊎_elim}
+use Rattle.std.proofs.lemmas.Bool.{cases_lt}
 use Rattle.std.specs.Prelude.{List}
 use Rattle.code_items.specs.declared.code.Proc.{Proc}
 use Rattle.work_area.specs.Areas.{StoreState}
@@ -46,24 +47,18 @@ returns-in-Some-clause-ran g c =
     ran_to_fault (world_seen c.loop-kind.machine) _ c.in-Some.kind i.comes i.within c.get-instr.ensures
     c.in-Some.ensures
 
-pub returns-then-steps-budget-clause-ran : goal.returns-then-steps-budget-clause-ran
-returns-then-steps-budget-clause-ran g c =
-    let comes = c.loop-kind.invariant.comes in
-    let m = c.loop-kind.machine in
-    let h = here (world_seen m) c.faultless_worlds_go_on.ensures c.requires.legal comes c.get-instr.ensures
-    c.in_default.ensures in
-    ran m (ends_spent _ _ _ _ _ _ _ (IsTagged m.values) _ (follows m comes) h (sym c.if-finishes.ensures)
-    c.if-steps-budget.true)
-
 pub returns-then-finishes-clause-ran : goal.returns-then-finishes-clause-ran
 returns-then-finishes-clause-ran g c =
     let comes = c.loop-kind.invariant.comes in
     let m = c.loop-kind.machine in
     let h = here (world_seen m) c.faultless_worlds_go_on.ensures c.requires.legal comes c.get-instr.ensures
     c.in_default.ensures in
-    let less : c.loop-kind.steps < c.args.budget =
-    omega (arith, c.if-steps-budget.false, c.loop-kind.invariant.within) in
-    ran m (ends_finished _ _ _ _ _ _ _ (IsTagged m.values) _ (follows m comes) h (sym c.if-finishes.ensures) less)
+    ⊎_elim (λ lt. rw (c.finishing.ensures.finished lt) (ran m (ends_finished _ _ _ _ _ _ _ (IsTagged m.values) _
+    (follows m comes) h (sym c.if-finishes.ensures) lt)))
+    (λ le.
+    let all : c.loop-kind.steps ≡ c.args.budget = omega (arith, le, c.loop-kind.invariant.within) in
+    rw (c.finishing.ensures.spent le) (ran m (ends_spent _ _ _ _ _ _ _ (IsTagged m.values) _ (follows m comes) h
+    (sym c.if-finishes.ensures) all))) (cases_lt c.loop-kind.steps c.args.budget)
 
 pub execute-requires-clause-ready : goal.execute-requires-clause-ready
 execute-requires-clause-ready g c =

@@ -14,7 +14,7 @@ returns g c =
     let code = c.args.verified.now in
     let m = c.in_ok-opening.field-0 in
     let free = subst (λ n. IsByKind c.in_ok-values.values (record { slots = replicate n None; stack = [] }))
-    (c.from.ensures ∙ ap (λ (k : Code). k.declared.slots) c.code.ensures.same) c.in_ok-values.ensures in
+    (c.from.ensures ∙ ap (λ (k : Code). k.declared.slots) c.code.ensures.same) c.in_ok-values.ensures.stands in
     record {
       store = c.args.store;
       lines = c.args.lines;
