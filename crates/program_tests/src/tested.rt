@@ -46,7 +46,8 @@ fn world_behind(
     Some(world)
 }
 
-/// Runs the code of this name on the checking machine, as a case says, and saves what that leaves; whether it was saved.
+/// Runs the code of this name on the checking machine, as a case says, and saves what that leaves; whether it was
+/// saved.
 pub fn saved_by_checking(
     alloc: Global,
     files: &mut MemoryFiles<'_>,
