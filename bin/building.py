@@ -1,5 +1,5 @@
-"""What the builders of the program share: which crates it stands on, where a build stands, one build at a time, and what
-scripts know of the toolchain."""
+"""What the builders of the program share: which crates it stands on, where a build stands, one build at a time, and
+what scripts know of the toolchain."""
 
 import contextlib
 import ctypes
@@ -25,8 +25,8 @@ TEMPORARY, SCRATCH = os.path.abspath(os.environ.get("TMPDIR") or "/tmp"), "table
 # What the system and the toolchain's tools say of a full disk, and what rt says of it.
 FULL, FULL_FOR_RT = os.strerror(errno.ENOSPC), "rt: the disk is full"
 
-# What scripts read of the toolchain's lines, beyond the last one, which the guide promises. tests/first tells where another
-# kit writes them otherwise. Of `rt ci`: a crate that was proved, one that was taken over, and what it notes.
+# What scripts read of the toolchain's lines, beyond the last one, which the guide promises. tests/first tells where
+# another kit writes them otherwise. Of `rt ci`: a crate that was proved, one that was taken over, and what it notes.
 PROVED, KEPT = re.compile(r"rt: (\w+) proved"), re.compile(r"rt: (\w+) is kept: .*")
 NOTE = re.compile(r"rt: note: (.*)")
 # Of `rt`, of itself: that it proves some crates by name, and keeps what passes. It keeps that in this folder beside the

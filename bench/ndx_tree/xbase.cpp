@@ -1,5 +1,5 @@
-// The same insertions and searches by libxbase64, whose index lies in a file beside its table. It doesn't find some keys
-// of ten bytes again.
+// The same insertions and searches by libxbase64, whose index lies in a file beside its table. It doesn't find some
+// keys of ten bytes again.
 #include "../../tests/exchange/xbase_numbers.h"
 #include <chrono>
 #include <cstdint>

@@ -1,4 +1,5 @@
-/* The works of bench/tables in SQLite: sqlite WORK DATABASE. A prepared statement a row, one transaction, no journal. */
+/* The works of bench/tables in SQLite: sqlite WORK DATABASE. A prepared statement a row, one transaction, no
+ * journal. */
 #include <sqlite3.h>
 #include <stdio.h>
 #include <stdlib.h>

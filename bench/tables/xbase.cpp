@@ -1,4 +1,5 @@
-// The works of bench/tables in libxbase64, in a folder that has its tables and indexes: xbase WORK, or xbase make, which makes the indexes.
+// The works of bench/tables in libxbase64, in a folder that has its tables and indexes: xbase WORK, or xbase make,
+// which makes the indexes.
 #include "../../tests/exchange/xbase_numbers.h"
 #include <cstdio>
 #include <cstdlib>
@@ -35,7 +36,8 @@ static void make(const char *table_name, const char *name, const char *key) {
     check(index.ReIndex());
 }
 
-static const char *const KEYS[] = {"CODE", "PART", "CODE+PART", "PART+CODE", "CODE+CODE", "PART+PART", "CODE+PART+CODE"};
+static const char *const KEYS[] = {"CODE",      "PART",      "CODE+PART",     "PART+CODE",
+                                   "CODE+CODE", "PART+PART", "CODE+PART+CODE"};
 
 static void make_all() {
     make("STOCK.DBF", "SI.NDX", "PART");
@@ -90,7 +92,10 @@ static void posted() {
 static void appended(const char *name, int first, int count) {
     auto table = opened(name);
     std::vector<std::unique_ptr<xbNdx>> indexes;
-    for (int i = first; i < first + count; i++) indexes.push_back(index_of(*table, ("N" + std::to_string(i) + ".NDX").c_str()));
+    for (int i = first; i < first + count; i++) {
+        auto file = "N" + std::to_string(i) + ".NDX";
+        indexes.push_back(index_of(*table, file.c_str()));
+    }
     char code[8], part[8];
     for (int i = 1; i <= 50000; i++) {
         std::snprintf(code, sizeof code, "%4d", i * 7919 % 1000);

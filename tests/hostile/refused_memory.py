@@ -88,7 +88,8 @@ def refuse_in_turn(name):
     if not resumed or min(resumed) != FIRST_GROWTH.get(name, min(resumed)):
         wrong.append(f"{name}: no run ended short of memory where it should")
     places = ", ".join(f"{resumed.count(it)} behind {it}" for it in sorted(set(resumed)))
-    return wrong, f"{name}: {count} requests, {before} refused outside of the run, {len(resumed)} taken up again ({places})"
+    told = f"{name}: {count} requests, {before} refused outside of the run"
+    return wrong, f"{told}, {len(resumed)} taken up again ({places})"
 
 
 def states(case, files):

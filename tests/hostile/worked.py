@@ -56,7 +56,8 @@ CASES = {
     "seven indexes are made": Case(
         f'USE S INDEX {",".join(SEVEN)}\nAPPEND BLANK\nREPLACE K WITH "BB"\n? RECNO(), RECCOUNT()\n',
         "         5          5\n", "", SEVEN_DECLARED, {"S.DBF": LONG_KEYS}),
-    # The changed key splits the last leaf, and uses up what was kept for that; the record added then splits the first one.
+    # The changed key splits the last leaf, and uses up what was kept for that; the record added then splits the first
+    # one.
     "a page splits in seven indexes": Case(
         f'USE S INDEX {",".join(SEVEN)}\nAPPEND BLANK\nAPPEND BLANK\nGO 5\nREPLACE K WITH "F9"\nAPPEND BLANK\n'
         "? RECNO(), RECCOUNT()\n", "        15         15\n", "", SEVEN_DECLARED,

@@ -4,8 +4,7 @@
 use super::cases::{CODE, code_of};
 use super::parts::{RunCase, begins};
 use super::stored::{are_alike, is_told, run_case, told};
-use super::tables::{lay, put_file};
-use super::tested::{left_alike, saved_by_checking};
+use super::tested::{left_alike, ready, saved_by_checking};
 use file_access::{MemoryFiles, WORKS_FOR_EVER};
 use run_commands::Report;
 use std::alloc::Global;
@@ -37,20 +36,15 @@ fn run_alike(
     ends && are_alike(alloc, &one, &other, CODE)
 }
 
-/// Makes the tables and the code of a case; whether that was done.
-fn ready(alloc: Global, files: &mut MemoryFiles<'_>, case: RunCase<'_>, code: &[u8]) -> bool {
-    lay(alloc, files, case) && put_file(alloc, files, CODE, code)
-}
-
 /// Whether both machines run the code of a case alike within a budget, and leave the same tables and the same indexes,
 /// stale ones among them.
 fn leave_alike(alloc: Global, case: RunCase<'_>, code: &[u8], budget: u64, whole: bool) -> bool {
     let mut files = MemoryFiles::new(alloc, &[], WORKS_FOR_EVER);
     let mut others = MemoryFiles::new(alloc, &[], WORKS_FOR_EVER);
-    ready(alloc, &mut files, case, code)
-        && ready(alloc, &mut others, case, code)
+    ready(alloc, &mut files, CODE, case, code)
+        && ready(alloc, &mut others, CODE, case, code)
         && run_alike(alloc, &mut files, case, budget, whole)
-        && saved_by_checking(alloc, &mut others, case, budget)
+        && saved_by_checking(alloc, &mut others, CODE, case, budget)
         && left_alike(&files.written, &others.written)
 }
 

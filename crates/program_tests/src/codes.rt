@@ -6,6 +6,7 @@ use super::cases::has_length;
 use super::parts::{RunCase, are_bytes, is_text, number_at};
 use super::stored::{are_alike, came_to, run_case};
 use super::tables::{lay, put_file};
+use super::tested::{left_alike, ready, saved_by_checking};
 use file_access::{MemoryFiles, WORKS_FOR_EVER};
 use file_commands::{list_code, verify_file};
 use run_commands::{How, Report, RunDay};
@@ -104,7 +105,7 @@ fn took(report: &Report, budget: u64, steps: u64, rows: &str) -> bool {
 }
 
 /// Whether both machines run the code alike within a budget, as it should be where its run takes so many steps.
-fn run_well(
+fn run_alike(
     alloc: Global,
     files: &mut MemoryFiles<'_>,
     case: RunCase<'_>,
@@ -121,11 +122,22 @@ fn run_well(
     }
 }
 
+/// Whether both machines run the code so, each from the same files, and leave the same tables.
+fn run_well(alloc: Global, case: RunCase<'_>, bytes: &[u8], budget: u64, steps: u64) -> bool {
+    let mut files = MemoryFiles::new(alloc, &[], WORKS_FOR_EVER);
+    let mut others = MemoryFiles::new(alloc, &[], WORKS_FOR_EVER);
+    ready(alloc, &mut files, NAME, case, bytes)
+        && ready(alloc, &mut others, NAME, case, bytes)
+        && run_alike(alloc, &mut files, case, budget, steps)
+        && saved_by_checking(alloc, &mut others, NAME, case, budget)
+        && left_alike(&files.written, &others.written)
+}
+
 /// Whether the code takes the steps that a case says, if it says so, with each budget up to one more.
-fn takes_steps(alloc: Global, files: &mut MemoryFiles<'_>, case: RunCase<'_>) -> bool {
+fn takes_steps(alloc: Global, case: RunCase<'_>, bytes: &[u8]) -> bool {
     let steps = case.number("steps ", 0);
     for budget in 0..=steps.saturating_add(1) {
-        if case.has("steps ") && !run_well(alloc, files, case, budget, steps) {
+        if case.has("steps ") && !run_well(alloc, case, bytes, budget, steps) {
             return false;
         }
     }
@@ -145,7 +157,7 @@ fn is_well(alloc: Global, files: &mut MemoryFiles<'_>, bytes: &[u8], case: RunCa
     reads
         && are_so(alloc, files, case)
         && files.failures == case.number("failures ", 0)
-        && takes_steps(alloc, files, case)
+        && takes_steps(alloc, case, bytes)
 }
 
 /// Whether the code of a case comes to what it says.

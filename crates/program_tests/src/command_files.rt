@@ -51,6 +51,7 @@ SET EXACT ON
   /  /
 %ended finished 17
 #a variable handed over
+%each 12
 %source
 X = 1
 DO P WITH X
@@ -62,6 +63,7 @@ Y = Y + 1
          2
 %ended finished 12
 #a value handed over
+%each 17
 %source
 X = 1
 DO P WITH X + 0
@@ -73,6 +75,7 @@ Y = Y + 1
          1
 %ended finished 17
 #a variable hidden
+%each 11
 %source
 X = 1
 DO Q
@@ -372,6 +375,7 @@ INDEX KI ON T KEY K
  A| B| C|
 %index KI.NDX
 01 00 00 00 01 00 00 00 00 00 00 00 4d 00 00 00 01 00 00 00
+%each 6
 %calls 5
 %source
 USE T INDEX KI

@@ -1,5 +1,6 @@
 // Codes by hand and what comes of them. `verdict` says what the verifier does; `checked`, `untagged` and `both` what
-// one machine or both do within a budget; `steps` what a run costs, at each budget up to which both do the same.
+// one machine or both do within a budget; `steps` what a run costs, where each step costs 1. At each budget up to that,
+// and one more, both do the same and leave the same tables.
 #![tactic(auto)]
 
 /// Faults, rules, calls and returns, over the constant `.T.` and the table T without records.
@@ -92,6 +93,14 @@ pub const FAULTS: &str = "%table T.DBF K C 1 0
 #a procedure that leaves a table open
 %over T%procedures 2 1,2 0,%code 0x12 0 1 0; 0x14 0 0 0; 0x20 0 0 0; 0x13 0 0 0;
 %verdict Exit 3%checked 100 finished 4
+#a record added, written and marked
+%over T%stack 1%constants T B|%steps 6
+%code 0x20 0 0 0; 0x30 0 0 0; 0x01 0 0 0; 0x31 0 0 0; 0x32 0 0 0; 0x14 0 0 0;
+%verdict accepted
+#records added, and then all removed
+%over T%stack 1%constants T B|%steps 7
+%code 0x20 0 0 0; 0x30 0 0 0; 0x01 0 0 0; 0x31 0 0 0; 0x30 0 0 0; 0x35 0 0 0; 0x14 0 0 0;
+%verdict accepted
 ";
 
 /// Numbers, dates, settings and functions.

@@ -29,6 +29,7 @@ DO PAID
 paid
 %ended finished 6
 #a file whose name has no point
+%each 6
 %files paid
 %file paid
 ? "paid"
@@ -76,6 +77,7 @@ DO ADD WITH X
          2
 %ended finished 12
 #a procedure of the third file goes before the second file of its name
+%each 6
 %files p.prg more.prg
 %file p.prg
 ? "file"
@@ -88,6 +90,7 @@ DO P
 procedure
 %ended finished 6
 #of two procedures of a name the first is called
+%each 6
 %files one.prg two.prg
 %file one.prg
 PROCEDURE P

@@ -3,9 +3,9 @@
 
 ghost use Rattle.std.specs.Prelude.{◌≡◌, IfSome, length};
 
-use super::cases::CODE;
 use super::parts::RunCase;
 use super::stored::{day_in, limit_in};
+use super::tables::{lay, put_file};
 use code_items::laws::legal_codes;
 use file_access::{MemoryFiles, WrittenFile};
 use file_commands::read_code;
@@ -46,17 +46,19 @@ fn world_behind(
     Some(world)
 }
 
-/// Runs the code of a case on the checking machine and saves what that leaves; whether it was saved.
+/// Runs the code of this name on the checking machine, as a case says, and saves what that leaves; whether it was
+/// saved.
 pub fn saved_by_checking(
     alloc: Global,
     files: &mut MemoryFiles<'_>,
+    name: &str,
     case: RunCase<'_>,
     budget: u64,
 ) -> bool {
     let Some(day) = day_in(case) else {
         return false;
     };
-    let Ok(code) = read_code(alloc, files, CODE) else {
+    let Ok(code) = read_code(alloc, files, name) else {
         return false;
     };
     legal_codes();
@@ -67,6 +69,17 @@ pub fn saved_by_checking(
         }
         None => false,
     }
+}
+
+/// Makes the tables and the code of a case; whether that was done.
+pub fn ready(
+    alloc: Global,
+    files: &mut MemoryFiles<'_>,
+    name: &str,
+    case: RunCase<'_>,
+    code: &[u8],
+) -> bool {
+    lay(alloc, files, case) && put_file(alloc, files, name, code)
 }
 
 /// Whether the same files were written, in the same order.
