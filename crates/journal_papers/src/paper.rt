@@ -1,6 +1,6 @@
 //! Words under keys, as a text in TOML.
 
-ghost use Rattle.std.specs.Prelude.{◌≡◌, ◌≢◌, ◌≤◌, ℕ, List, Some, None, IfOk, IfErr, OnOk, option_map};
+ghost use Rattle.std.specs.Prelude.{◌≡◌, ◌≢◌, ◌≤◌, ℕ, List, Some, None, IfOk, IfErr, OnOk, OnErr, option_map};
 ghost use Rattle.std.specs.Prelude.{option_and_then, string_bytes};
 ghost use Rattle.toml.specs.Data.{no_members, string, as_str, get_member, members_depth};
 ghost use Rattle.toml.specs.Parse.{parse_document};
@@ -40,6 +40,7 @@ impl JournalPaper {
         ensures stands { OnOk result (get_member key.now (table_view self.new.table) ≡ Some (string word.now)) }
         ensures others { OnOk result ((other : List ℕ) → other ≢ key.now
             → get_member other (table_view self.new.table) ≡ get_member other (table_view self.old.table)) }
+        ensures refused { OnErr result (table_view self.new.table ≡ table_view self.old.table) }
     {
         let key = String::from_str(alloc, key)?;
         let word = String::from_str(alloc, word)?;
@@ -63,8 +64,9 @@ impl JournalPaper {
     /// # Errors
     /// `Memory` where memory was refused.
     pub fn text(&self, alloc: Global) -> Result<String, PaperFault>
-        ensures { IfOk result (λ text. members_depth (table_view self.now.table) ≤ 80
+        ensures told { IfOk result (λ text. members_depth (table_view self.now.table) ≤ 80
             → parse_document (string_bytes text) ≡ Some (table_view self.now.table)) }
+        ensures refused { IfErr result (λ fault. fault ≡ PaperFault.Memory) }
     {
         match toml::table_to_string(alloc, &self.table) {
             Ok(text) => Ok(text),

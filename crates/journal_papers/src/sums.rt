@@ -1,6 +1,6 @@
 //! Sums of files, as such texts tell them.
 
-ghost use Rattle.std.specs.Prelude.{◌≡◌, ◌≢◌, ℕ, List, Some, IfOk, OnOk, not, position, string_bytes};
+ghost use Rattle.std.specs.Prelude.{◌≡◌, ◌≢◌, ℕ, List, Some, IfOk, OnOk, OnErr, not, position, string_bytes};
 ghost use Rattle.hex.specs.Hex.{encode_lower};
 ghost use Rattle.toml.specs.Data.{get_member, string};
 ghost use Rattle.toml.specs.View.{table_view};
@@ -65,6 +65,7 @@ impl JournalPaper {
             ≡ Some (string (sum_word file.now.sum))) }
         ensures others { OnOk result ((other : List ℕ) → other ≢ spec.sum_key (string_bytes file.now.name)
             → get_member other (table_view self.new.table) ≡ get_member other (table_view self.old.table)) }
+        ensures refused { OnErr result (table_view self.new.table ≡ table_view self.old.table) }
     {
         let word = word(alloc, &file.sum)?;
         self.put(alloc, sum_key(file.name.as_str()), word.as_str())

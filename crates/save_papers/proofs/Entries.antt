@@ -2,7 +2,7 @@
 use Rattle.std.proofs.Common.{◌≡◌, ℕ, zero, suc, List, [], ◌∷◌, ◌++◌, length, All, Some, refl}
 use Rattle.std.proofs.Common.{ap, subst, ◌∙◌, append_assoc}
 use Rattle.std.specs.List.{flat_map, AllByRecursion}
-use Rattle.std.proofs.lemmas.List.Elements.{All-from_recursion}
+use Rattle.std.proofs.lemmas.List.Elements.{All-from_recursion, All-head, All-tail}
 use Rattle.std.proofs.lemmas.List.Concat.{flat_map-cons}
 use Rattle.save_papers.specs.declared.paper.PaperEntry.{PaperEntry}
 use Rattle.save_papers.specs.Papers.{EntrySays, string, flagged_sum, paper_entry_text, entry_view, entry_views}
@@ -95,3 +95,11 @@ each_fits (e ∷ es) fits = (fits.0, each_fits es fits.1)
 pub entry_fits : (es : List PaperEntry) → AllByRecursion FitsEntry (entry_views es)
     → All (λ e. FitsEntry (entry_view e)) es
 entry_fits es fits = All-from_recursion (λ e. FitsEntry (entry_view e)) es (each_fits es fits)
+
+pub fitting_entries : (es : List PaperEntry) → All (λ e. FitsEntry (entry_view e)) es
+    → AllByRecursion FitsEntry (entry_views es)
+fitting_entries [] fits = tt
+fitting_entries (e ∷ es) fits = (
+  All-head (λ e. FitsEntry (entry_view e)) e es fits,
+  fitting_entries es (All-tail (λ e. FitsEntry (entry_view e)) e es fits),
+)
