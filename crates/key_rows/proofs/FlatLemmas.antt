@@ -12,7 +12,7 @@ use Rattle.key_lists.specs.Pairs.{Pair, is_before}
 use Rattle.key_lists.specs.Rising.{IsRising, place_of}
 use Rattle.key_lists.proofs.Ordered.{Each-at}
 use Rattle.key_lists.proofs.PairOrder.{is_before_strict}
-use Rattle.key_rows.specs.Flat.{pairs_in, HaveKeys}
+use Rattle.key_rows.specs.Flat.{FlatView, pairs_in, HaveKeys}
 
 -- ---- places
 
@@ -32,6 +32,18 @@ pub length-pairs_in : (k n : ℕ) (b : List ℕ) → length (pairs_in k n b) ≡
 unfolding pairs_in
 length-pairs_in k zero b = refl
 length-pairs_in k (suc n) b = ap suc (length-pairs_in k n (drop (k + 4) b))
+
+-- the pairs of a view, and how many they are
+pub pairs_of : (k n room : ℕ) (b : List ℕ) (v : FlatView)
+    → ◌≡◌ {A = FlatView} (record { items = pairs_in k n b; room = room }) v → pairs_in k n b ≡ v.items
+pairs_of k n room b v e = ap (λ (w : FlatView). w.items) e
+
+pub count_of : (k n : ℕ) (b : List ℕ) (items : List Pair) → pairs_in k n b ≡ items → n ≡ length items
+count_of k n b items e = sym (length-pairs_in k n b) ∙ ap (λ (m : List Pair). length m) e
+
+pub pair_within : (k i n : ℕ) (b : List ℕ) (items : List Pair) → pairs_in k n b ≡ items → length b ≡ n * (k + 4)
+    → i < length items → i * (k + 4) + (k + 4) ≤ length b
+pair_within k i n b items e whole l = place_within k i n b whole (omega (arith, count_of k n b items e, l))
 
 further : (k i : ℕ) (b : List ℕ) → drop (i * (k + 4)) (drop (k + 4) b) ≡ drop (suc i * (k + 4)) b
 further k i b = drop-drop (i * (k + 4)) (k + 4) b ∙ ap (λ j. drop j b) (next_place k i)

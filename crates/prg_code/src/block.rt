@@ -1,6 +1,6 @@
 //! A procedure's block that is being written.
 
-ghost use Rattle.std.specs.Prelude.{◌≡◌, ◌<◌, ◌^◌, [], ◌∷◌, ◌++◌, true, false, length, take, IfOk, OnOk, OnErr};
+ghost use Rattle.std.specs.Prelude.{◌≡◌, ◌<◌, ◌^◌, [], ◌∷◌, ◌++◌, true, false, length, take, IfOk, IsOk, OnOk, OnErr};
 ghost use Rattle.code_items.specs.declared.instr.FlowInstr.TheVariants.{End};
 ghost use Rattle.code_items.specs.declared.instr.Instr.TheVariants.{Flow};
 ghost use Rattle.prg_code.specs.Growth.{BlockGrows, BlockBegins, IsBesidePieces, Puts, drafts_of};
@@ -227,7 +227,7 @@ impl DraftBlock {
         ensures put { OnOk result (label < 2 ^ 32 → self.old.reached ≡ true
             → drafts_of self.new ≡ drafts_of self.old ++ draft.Jump label ∷ []) }
         // Where the place isn't reached, no jump is written.
-        ensures none { self.old.reached ≡ false → self.new.pieces ≡ self.old.pieces }
+        ensures none { self.old.reached ≡ false → IsOk result × (self.new.pieces ≡ self.old.pieces) }
         ensures grown { BlockGrows self.old self.new }
         ensures reached { OnOk result (self.new.reached ≡ false) }
     {

@@ -1,8 +1,10 @@
 //! Constants by number.
 
-ghost use Rattle.std.specs.Prelude.{◌≡◌, true, Some, IfOk, slice_get};
+ghost use Rattle.std.specs.Prelude.{◌≡◌, ⊥, true, length, Some, Err, IfOk, OnErr, slice_get};
 ghost use Rattle.fixed_num.specs.Words.{magnitude_of};
 ghost use Rattle.prg_code.specs.Numbers.{Grows};
+ghost use Rattle.prg_code.specs.declared.fault.CompileError.TheVariants as error;
+ghost use Rattle.prg_code.specs.declared.fault.CompileFaultKind.TheVariants as kind;
 ghost use Rattle.prg_code.specs.Pools.{HasConstant, is_same_day as is_same_day_of, is_one_constant, day_code};
 
 use crate::fault::CompileError;
@@ -137,6 +139,10 @@ impl Numbering<Constant, MOST_CONSTANTS> {
         ensures grown { Grows self.old self.new }
         // A constant that is there isn't added.
         ensures once { HasConstant self.old value → self.new ≡ self.old }
+        // Limit comes only where all numbers are given to others.
+        ensures full { result ≡ Err (error.Fault kind.Limit) → (length self.old ≡ 4096)
+            × (HasConstant self.old value → ⊥) }
+        ensures refused { OnErr result (self.new ≡ self.old) }
     {
         self.number(Constant { value })
     }

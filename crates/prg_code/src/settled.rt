@@ -1,6 +1,6 @@
 //! Blocks laid out: places in place of labels.
 
-ghost use Rattle.std.specs.Prelude.{◌≡◌, ◌≤◌, [], length, IfOk, IfErr};
+ghost use Rattle.std.specs.Prelude.{◌≡◌, ◌<◌, ◌≤◌, ◌⊎◌, [], length, IfOk, IfErr, OnErr};
 ghost use Rattle.prg_code.specs.Growth.{drafts_of};
 ghost use Rattle.prg_code.specs.Numbers.{Grows};
 ghost use Rattle.prg_code.specs.Rooms.{in_64_bits, sizes_of, maps_of};
@@ -55,6 +55,7 @@ impl LaidOut {
           line = at.line;
           kind = Limit;
         })) }
+        ensures full { OnErr result ((65535 < length self.now.instrs.items) ⊎ (4096 < length self.now.maps.items)) }
     {
         if self.instrs.len() > MOST_INSTRUCTIONS || self.maps.len() > MOST_MAPS {
             let SourceLine { file, line } = at;

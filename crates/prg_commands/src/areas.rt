@@ -1,6 +1,8 @@
 //! Commands on work areas.
 
-ghost use Rattle.std.specs.Prelude.{◌≡◌, [], ◌∷◌, ℕ, false, IfOk, OnOk, Some, option_map, position};
+ghost use Rattle.std.specs.Prelude.{◌≡◌, [], ◌∷◌, ℕ, false, IfErr, IfOk, None, OnOk, Some, option_map, position};
+ghost use Rattle.prg_code.specs.declared.fault.CompileError.TheVariants as error;
+ghost use Rattle.prg_code.specs.declared.fault.CompileFaultKind.TheVariants as fault;
 ghost use Rattle.std.specs.Str.{bytes_eq};
 ghost use Rattle.code_items.specs.Desks.{open_at};
 ghost use Rattle.code_items.specs.declared.instr.AreaInstr.TheVariants as area_instr;
@@ -31,7 +33,10 @@ const MOST_VALUES: usize = 64;
 
 /// What the selected work area holds. ClosedArea where it isn't known to be open.
 pub fn opened(work: &Work) -> Result<OpenArea, CompileError>
-    ensures { IfOk result (λ area. open_at work.now.block.state.desk work.now.block.state.desk.selected ≡ Some area) }
+    ensures open { IfOk result (λ area. open_at work.now.block.state.desk work.now.block.state.desk.selected
+        ≡ Some area) }
+    ensures closed { IfErr result (λ e. (e ≡ error.Fault fault.ClosedArea)
+        × (open_at work.now.block.state.desk work.now.block.state.desk.selected ≡ None)) }
 {
     match work.block.state.desk.selected_area() {
         Some(area) => Ok(area),

@@ -1,6 +1,8 @@
 //! Expressions within commands.
 
-ghost use Rattle.std.specs.Prelude.{◌≡◌, [], ◌∷◌, false, IfOk, OnOk, Some};
+ghost use Rattle.std.specs.Prelude.{◌≡◌, ◌≢◌, [], ◌∷◌, false, IfErr, IfOk, OnOk, Some};
+ghost use Rattle.prg_code.specs.declared.fault.CompileError.TheVariants as error;
+ghost use Rattle.prg_code.specs.declared.fault.CompileFaultKind.TheVariants as fault;
 ghost use Rattle.prg_code.specs.Growth.{Grown, WorkGrows, Puts};
 ghost use Rattle.prg_expr.specs.Tree.{tree_of};
 ghost use Rattle.code_items.specs.declared.instr.Instr.TheVariants.{Screen, Values};
@@ -48,7 +50,8 @@ pub fn value(
 
 /// Kind where the two differ.
 pub fn demand(kind: Kind, wanted: Kind) -> Result<(), CompileError>
-    ensures { OnOk result (kind ≡ wanted) }
+    ensures same { OnOk result (kind ≡ wanted) }
+    ensures other { IfErr result (λ e. (e ≡ error.Fault fault.Kind) × (kind ≢ wanted)) }
 {
     if kind.is(wanted) {
         Ok(())

@@ -1,8 +1,9 @@
 //! Labels, jumps and conditions, with the line of their command where they are refused.
 
-ghost use Rattle.std.specs.Prelude.{◌≡◌, IfSome};
+ghost use Rattle.std.specs.Prelude.{◌≡◌, ◌<◌, ◌^◌, [], ◌∷◌, ◌++◌, true, false, IfSome, IsOk, OnOk};
+ghost use Rattle.prg_code.specs.declared.block.Draft.TheVariants as draft;
 ghost use Rattle.prg_code.specs.declared.work.Output.{Output as AnyOutput};
-ghost use Rattle.prg_code.specs.Growth.{OutputGrows};
+ghost use Rattle.prg_code.specs.Growth.{OutputGrows, drafts_of};
 ghost use Rattle.prg_writer.specs.Writing.{IsBegunBehind};
 
 use prg_code::CompileRefusal;
@@ -98,6 +99,11 @@ pub fn place(w: &mut Writer, line: usize, label: usize) -> Result<(), CompileRef
 /// A JUMP to the label, where this is reached.
 pub fn jump(w: &mut Writer, line: usize, label: usize) -> Result<(), CompileRefusal>
     ensures same { w.new.out ≡ w.old.out }
+    ensures put { OnOk result (label < 2 ^ 32 → w.old.work.block.reached ≡ true
+        → drafts_of w.new.work.block ≡ drafts_of w.old.work.block ++ draft.Jump label ∷ []) }
+    // Where the place isn't reached, no jump is written.
+    ensures none { w.old.work.block.reached ≡ false → IsOk result
+        × (w.new.work.block.pieces ≡ w.old.work.block.pieces) }
 {
     w.work.block.line = line;
     let result = w.work.block.jump(label);

@@ -1,21 +1,16 @@
 -- Why a line isn't taken, from why its parts aren't.
-use Rattle.std.proofs.Common.{◌≡◌, ◌<◌, ◌≤◌, ℕ, Bool, true, false, not, ◌&&◌, ◌||◌, ◌==◌, nat_le, List, [], ◌∷◌, length}
-use Rattle.std.proofs.Common.{inl, inr, refl, sym, subst, arith}
+use Rattle.std.proofs.Common.{◌≡◌, ◌<◌, ◌≤◌, ℕ, true, false, not, List, length}
+use Rattle.std.proofs.Common.{inl, inr, sym, subst, arith}
 use Rattle.std.specs.Prelude.{◌⊎◌, Some, Result, Ok, Err, IfErr}
-use Rattle.std.specs.Char.{is_ascii_uppercase, is_ascii_digit}
-use Rattle.std.specs.List.{list_all}
-use Rattle.std.specs.Str.{IsAscii, IsUtf8}
-use Rattle.std.specs.Int.{is_in_range}
-use Rattle.std.proofs.lemmas.Bool.{and_parts, eqb-true, leb-true}
-use Rattle.std.proofs.lemmas.Str.Ascii.{IsAscii-cons, IsAscii-nil}
-use Rattle.std.proofs.lemmas.Str.{IsUtf8-from_ascii}
+use Rattle.std.specs.Str.{IsUtf8}
+use Rattle.std.proofs.lemmas.Bool.{and_parts}
 use Rattle.dbf_file.specs.declared.field.Field.{Field}
 use Rattle.file_access.specs.Holding.{Holds}
 use Rattle.shape.specs.declared.indexes.IndexShape.{IndexShape}
 use Rattle.shape.specs.declared.tables.TableShape.{TableShape}
 use Rattle.shape.specs.declared.whole.Shape.{Shape}
 use Rattle.shape.specs.Indexes.{is_next_index}
-use Rattle.shape.specs.Names.{begins_with_capital, is_area_letter, is_capital_byte, is_capital_name, is_file_name}
+use Rattle.shape.specs.Names.{is_file_name}
 use Rattle.shape.specs.Tables.{is_next_table}
 use Rattle.shape_files.specs.declared.refusal.LineFault.{LineFault}
 use Rattle.shape_files.specs.declared.refusal.LineFault.TheVariants as fault
@@ -33,36 +28,6 @@ pub for_err : {A E : Type 0} (result : Result A E) (P Q : E → Type 0) → ((e 
 for_err (Ok x) P Q f p = tt
 for_err (Err e) P Q f p = f e p
 
--- ---- names
-
-in_range : (lo hi b : ℕ) → is_in_range lo hi b ≡ true → b ≤ hi
-in_range lo hi b e = leb-true b hi (and_parts (nat_le lo b) (nat_le b hi) e).1
-
-small_by : (x y : Bool) (b : ℕ) → (x ≡ true → b < 128) → (y ≡ true → b < 128) → (x || y) ≡ true → b < 128
-small_by true y b f g e = f refl
-small_by false y b f g e = g e
-
-capital_small : (b : ℕ) → is_capital_byte b ≡ true → b < 128
-capital_small b e = small_by (is_ascii_uppercase b || is_ascii_digit b) (b == 95) b
-    (λ both. small_by (is_ascii_uppercase b) (is_ascii_digit b) b (λ f. omega (arith, in_range 65 90 b f))
-    (λ f. omega (arith, in_range 48 57 b f)) both)
-    (λ f. omega (arith, eqb-true b 95 f)) e
-
-capitals_ascii : (name : List ℕ) → list_all is_capital_byte name ≡ true → IsAscii name
-capitals_ascii [] e = IsAscii-nil
-capitals_ascii (b ∷ name) e =
-    let p = and_parts (is_capital_byte b) (list_all is_capital_byte name) e in
-    IsAscii-cons b name (capital_small b p.0) (capitals_ascii name p.1)
-
--- a name that a table can have is a short text
-pub name_is_text : (name : List ℕ) → is_file_name name ≡ true → IsUtf8 name × (length name ≤ 8)
-unfolding is_file_name
-name_is_text name e =
-    let p = and_parts (nat_le (length name) 8 && is_capital_name name) (not (is_area_letter name)) e in
-    let q = and_parts (nat_le (length name) 8) (is_capital_name name) p.0 in
-    let r = and_parts (begins_with_capital name) (list_all is_capital_byte name) q.1 in
-    (IsUtf8-from_ascii name (capitals_ascii name r.1), leb-true (length name) 8 q.0)
-
 -- ---- tables
 
 pub no_fields : (holds : Holds) (name bytes : List ℕ) (a b : ℕ) (why : LineRefusal)
@@ -74,26 +39,24 @@ no_fields holds name bytes a b (line.Disk table) held (inl e) = absurd (cc)
 no_fields holds name bytes a b (line.Disk table) held (inr e) = absurd (cc)
 no_fields holds name bytes a b line.Memory held e = tt
 
-no_file : (name : List ℕ) → is_file_name name ≡ true → ((¬ (IsUtf8 name)) ⊎ (8 < length name)) → ⊥
-no_file name e (inl none) = none (name_is_text name e).0
-no_file name e (inr long) = absurd (omega (arith, long, (name_is_text name e).1))
-
-no_table : (holds : Holds) (name : List ℕ) → is_file_name name ≡ true
+no_table : (holds : Holds) (name : List ℕ) → IsUtf8 name × (length name ≤ 8)
     → ((¬ (IsUtf8 name)) ⊎ (8 < length name)) ⊎ LacksTable (holds (file_name name))
     → LacksTable (holds (file_name name))
-no_table holds name e (inl none) = absurd (no_file name e none)
-no_table holds name e (inr none) = none
+no_table holds name text (inl (inl none)) = absurd (none text.0)
+no_table holds name text (inl (inr long)) = absurd (omega (arith, long, text.1))
+no_table holds name text (inr none) = none
 
 -- the fields of a table that a line says aren't read
 pub fields_told : (holds : Holds) (s : Shape) (name : List ℕ) (a b : ℕ) (why : LineRefusal)
+    → ((n : List ℕ) → is_file_name n ≡ true → IsUtf8 n × (length n ≤ 8))
     → is_new_table_name s.tables name ≡ true → length s.tables < 32 → FieldsRefusalIs holds name a b why
     → LineRefusalIs holds s (Table name) a b why
-fields_told holds s name a b (line.Fault f) new room t =
+fields_told holds s name a b (line.Fault f) texts new room t =
     let said = (and_parts (is_file_name name) (not (is_table_named s.tables name)) new).0 in
     subst (λ (x : LineFault). LineRefusalIs holds s (Table name) a b (line.Fault x)) (sym t.0)
-    (new, room, inl (no_table holds name said t.1))
-fields_told holds s name a b (line.Disk table) new room t = t
-fields_told holds s name a b line.Memory new room t = tt
+    (new, room, inl (no_table holds name (texts name said) t.1))
+fields_told holds s name a b (line.Disk table) texts new room t = t
+fields_told holds s name a b line.Memory texts new room t = tt
 
 -- a table that a line says can't be added
 pub table_told : (holds : Holds) (s : Shape) (name : List ℕ) (t : TableShape) (a b : ℕ) (why : LineRefusal)

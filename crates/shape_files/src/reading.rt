@@ -15,6 +15,7 @@ use crate::line::{DeclarationLine, line_of};
 use crate::refusal::{DeclFault, LineFault, LineRefusal, ShapeRefusal};
 use crate::tables::read_fields;
 use file_access::{FILE_LIMIT, Files, ReadFault};
+use shape::laws::file_names_are_texts;
 use shape::{IndexShape, Items, Shape, TableShape};
 use std::alloc::Global;
 use text_lines::first_line;
@@ -47,7 +48,10 @@ fn declare_table<F: Files>(
             name,
             fields: Items::of(fields),
         }),
-        Err(refusal) => Err(refusal),
+        Err(refusal) => {
+            file_names_are_texts();
+            Err(refusal)
+        }
     }
 }
 

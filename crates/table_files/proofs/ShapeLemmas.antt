@@ -1,60 +1,25 @@
--- The files of a shape that may be declared: names of ASCII bytes, and no two alike.
-use Rattle.std.proofs.Common.{◌≡◌, ◌≢◌, ◌≤◌, ◌<◌, ◌+◌, ℕ, zero, suc, Bool, true, false, not, ◌||◌, ◌==◌, ◌⊎◌, inl}
-use Rattle.std.proofs.Common.{inr, lit<, nat_le, List, [], ◌∷◌, ◌++◌, Some, length, take, map, reverse, get_or, refl}
+-- The files of a shape that may be declared: no two alike.
+use Rattle.std.proofs.Common.{◌≡◌, ◌≢◌, ◌≤◌, ◌<◌, ◌+◌, ℕ, zero, suc, Bool, true, false, not, ◌||◌, ◌⊎◌, inl}
+use Rattle.std.proofs.Common.{inr, nat_le, List, [], ◌∷◌, ◌++◌, Some, length, take, map, reverse, get_or, refl}
 use Rattle.std.proofs.Common.{sym, ap, ◌∙◌, subst, arith, append_assoc, append-nil}
-use Rattle.std.specs.Prelude.{slice_get, codes, IsUtf8}
-use Rattle.std.specs.Char.{to_ascii_lowercase, is_ascii_uppercase, is_ascii_digit}
+use Rattle.std.specs.Prelude.{slice_get, codes}
+use Rattle.std.specs.Char.{to_ascii_lowercase}
 use Rattle.std.specs.Cmp.Derive.{both_true}
-use Rattle.std.specs.Int.{is_in_range}
 use Rattle.std.specs.List.{AllByRecursion, list_all, list_any}
-use Rattle.std.specs.Str.{IsAscii, bytes_eq, str_eq_ignore_ascii_case}
-use Rattle.std.proofs.lemmas.Bool.{leb-true, eqb-true, eq-eqb, not-true, false≢true, and_parts}
+use Rattle.std.specs.Str.{bytes_eq, str_eq_ignore_ascii_case}
+use Rattle.std.proofs.lemmas.Bool.{leb-true, eq-eqb, not-true, false≢true, and_parts}
 use Rattle.std.proofs.lemmas.List.{append_cancel_right, reverse-append}
 use Rattle.std.proofs.lemmas.Option.{slice_get_within}
-use Rattle.std.proofs.lemmas.Str.{IsUtf8-from_ascii}
 use Rattle.dbf_file.specs.Fields.{are_fields}
 use Rattle.shape.specs.declared.indexes.IndexShape.{IndexShape}
 use Rattle.shape.specs.declared.tables.TableShape.{TableShape}
 use Rattle.shape.specs.declared.whole.Shape.{Shape}
 use Rattle.shape.specs.Indexes.{has_declared_key, is_index, is_next_index, indexes_go_on, has_index_name}
-use Rattle.shape.specs.Names.{is_capital_byte, is_capital_name, begins_with_capital, is_area_letter, is_file_name}
+use Rattle.shape.specs.Names.{is_capital_name, is_file_name}
 use Rattle.shape.specs.Tables.{is_table, is_next_table, tables_go_on, has_table_name}
 use Rattle.shape.specs.Whole.{is_shape}
 use Rattle.table_files.specs.Names.{table_file, index_file, files_of}
 use Rattle.table_files.proofs.FileLemmas.{some_same}
-
--- ---- bytes of names
-
-either : (a b : Bool) → a || b ≡ true → (a ≡ true) ⊎ (b ≡ true)
-either true b e = inl refl
-either false b e = inr e
-
-in_range_below : (lo hi c : ℕ) → is_in_range lo hi c ≡ true → c ≤ hi
-in_range_below lo hi c e = leb-true c hi (and_parts (nat_le lo c) (nat_le c hi) e).1
-
-capital_below : (c : ℕ) → is_capital_byte c ≡ true → c < 128
-capital_below c e = elim (either (is_ascii_uppercase c || is_ascii_digit c) (c == 95) e) [
-  | inl letter_or_digit ↦ elim (either (is_ascii_uppercase c) (is_ascii_digit c) letter_or_digit) [
-    | inl letter ↦ (let h : c ≤ 90 = in_range_below 65 90 c letter in omega arith)
-    | inr digit ↦ (let h : c ≤ 57 = in_range_below 48 57 c digit in omega arith)
-  ]
-  | inr line ↦ (let h : c ≡ 95 = eqb-true c 95 line in omega arith)
-]
-
-capitals_below : (name : List ℕ) → list_all is_capital_byte name ≡ true → IsAscii name
-capitals_below [] e i = lit< tt
-capitals_below (c ∷ name) e zero = capital_below c (and_parts (is_capital_byte c) (list_all is_capital_byte name) e).0
-capitals_below (c ∷ name) e (suc i) =
-    capitals_below name (and_parts (is_capital_byte c) (list_all is_capital_byte name) e).1 i
-
--- a file's name is text of at most eight bytes
-pub name_is_text : (name : List ℕ) → is_file_name name ≡ true → IsUtf8 name × (length name ≤ 8)
-unfolding is_file_name
-name_is_text name e =
-    let a = and_parts _ (not (is_area_letter name)) e in
-    let b = and_parts (nat_le (length name) 8) (is_capital_name name) a.0 in
-    let c = and_parts (begins_with_capital name) (list_all is_capital_byte name) b.1 in
-    (IsUtf8-from_ascii name (capitals_below name c.1), leb-true (length name) 8 b.0)
 
 -- ---- declared tables
 

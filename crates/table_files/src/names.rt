@@ -5,6 +5,7 @@ ghost use Rattle.shape.specs.Names.{is_file_name};
 ghost use Rattle.table_files.specs.Names.{table_file, index_file};
 
 use arrayvec::ArrayString;
+use shape::laws::file_names_are_texts;
 use shape::{IndexShape, Name, TableShape};
 use std::str;
 
@@ -17,6 +18,7 @@ fn with_ending(name: &Name, ending: &str) -> FileName
     requires ending { length ending.now ≤ 4 }
     ensures { result.bytes ≡ name.now.items ++ ending.now }
 {
+    file_names_are_texts();
     let mut file = FileName::new();
     let text = str::from_utf8(name.as_slice()).unwrap();
     file.push_str(text);

@@ -24,6 +24,6 @@ returns-in-Err-clause-refused g c =
     let after = g.F.Files.failed c.read_fields.new.files in
     let room : length c.args.declarations.now.tables.items < 32 = search rules in
     fields_told holds (shape_of c.args.declarations.now) c.args.word.now before after c.in-Err.refusal
-    c.in-Some.ensures.1 room
+    c.file_names_are_texts.ensures c.in-Some.ensures.1 room
     (subst (λ (name : List ℕ). FieldsRefusalIs holds name before after c.in-Err.refusal)
     (c.as_slice.ensures.value ∙ c.in-Some.ensures.0) c.in-Err.ensures.refused)

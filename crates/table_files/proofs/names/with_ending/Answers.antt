@@ -1,7 +1,6 @@
 use Rattle.std.proofs.Common.{◌≡◌, ◌≤◌, ◌++◌, List, ℕ, Result, Ok, Err, MatchResult, IsUtf8, length, arith, ap, ◌∙◌}
 use Rattle.std.proofs.Common.{sym, subst, refl, lit<}
 use Rattle.std.specs.Result.{IsOk}
-use Rattle.table_files.proofs.ShapeLemmas.{name_is_text}
 use Rattle.table_files.proofs.names.with_ending.Goals as goal
 
 is_ok_of : {T E : Type 0} (r : Result T E) (P : T → Type 0) (Q : E → Type 0) → MatchResult r P Q → ((e : E) → Q e → ⊥)
@@ -15,13 +14,13 @@ value_of {T = T} {E = E} r x P Q e h = subst (λ (s : Result T E). MatchResult s
 
 pub unwrap-text-requires : goal.unwrap-text-requires
 unwrap-text-requires c =
-    let text = name_is_text _ c.requires.name in
+    let text = c.file_names_are_texts.ensures _ c.requires.name in
     is_ok_of c.from_utf8.result _ _ c.from_utf8.ensures.cases
     (λ e h. h.0 (subst IsUtf8 (sym c.as_slice.ensures.value) text.0))
 
 pub push_str-requires-2 : goal.push_str-requires-2
 push_str-requires-2 c =
-    let short = (name_is_text _ c.requires.name).1 in
+    let short = (c.file_names_are_texts.ensures _ c.requires.name).1 in
     let text = value_of c.from_utf8.result c.unwrap-text.result _ _ c.unwrap-text.ensures c.from_utf8.ensures.cases in
     let bytes : c.push_str.new.self.bytes ≡ c.args.name.now.items = c.push_str.ensures.bytes
     ∙ ap (λ (front : List ℕ). front ++ c.unwrap-text.result.now) c.new-file.ensures ∙ text.0

@@ -1,8 +1,8 @@
 use Rattle.std.proofs.Common.{◌≡◌, ℕ, List, [], ◌∷◌, ◌++◌, length, refl, sym, ap, subst, ◌∙◌}
 use Rattle.byteorder.specs.Endian.{little_bytes}
 use Rattle.key_lists.specs.Pairs.{Pair}
-use Rattle.key_rows.specs.Flat.{FlatView, HaveKeys, pairs_in}
-use Rattle.key_rows.proofs.FlatLemmas.{length-pairs_in, adopted, length-pushed, pairs_pushed}
+use Rattle.key_rows.specs.Flat.{HaveKeys, pairs_in}
+use Rattle.key_rows.proofs.FlatLemmas.{adopted, length-pushed, pairs_pushed, pairs_of}
 use Rattle.key_rows.proofs.entries.Entries.add.Goals as goal
 
 pub invariant_of-self-2 : goal.invariant_of-self-2
@@ -10,9 +10,7 @@ invariant_of-self-2 c =
     let k = c.self.inside.key_length in
     let n = c.self.inside.count in
     let b = c.self.inside.bytes.items in
-    let items : pairs_in k n b ≡ c.args.self.now.items = ap (λ (v : FlatView). v.items) c.self.view_is in
-    let count : n ≡ length c.args.self.now.items =
-    sym (length-pairs_in k n b) ∙ ap (λ (m : List Pair). length m) items in
+    let items = pairs_of k n _ b c.args.self.now c.self.view_is in
     let j = length c.args.key.now in
     let keys : HaveKeys j (pairs_in k n b) = subst (λ (m : List Pair). HaveKeys j m) (sym items) c.requires.alike in
     let a = adopted k j n b c.self.invariant.whole keys in
@@ -26,9 +24,7 @@ returns-clause-items c =
     let k = c.self.inside.key_length in
     let n = c.self.inside.count in
     let b = c.self.inside.bytes.items in
-    let items : pairs_in k n b ≡ c.args.self.now.items = ap (λ (v : FlatView). v.items) c.self.view_is in
-    let count : n ≡ length c.args.self.now.items =
-    sym (length-pairs_in k n b) ∙ ap (λ (m : List Pair). length m) items in
+    let items = pairs_of k n _ b c.args.self.now c.self.view_is in
     let j = length c.args.key.now in
     let keys : HaveKeys j (pairs_in k n b) = subst (λ (m : List Pair). HaveKeys j m) (sym items) c.requires.alike in
     let a = adopted k j n b c.self.invariant.whole keys in

@@ -2,7 +2,7 @@ use Rattle.std.proofs.Common.{◌≡◌, ◌+◌, ◌*◌, ◌≤◌, ℕ, List,
 use Rattle.std.proofs.Math.Nat.{add-mul}
 use Rattle.key_lists.specs.Pairs.{Pair}
 use Rattle.key_rows.specs.Flat.{FlatView, HaveKeys, pairs_in}
-use Rattle.key_rows.proofs.FlatLemmas.{length-pairs_in, part_at_most, part_length, key_length_is, adopted}
+use Rattle.key_rows.proofs.FlatLemmas.{part_at_most, part_length, key_length_is, adopted, pairs_of, count_of}
 use Rattle.key_rows.proofs.FlatLemmas.{length-copied, pairs_copied, with_none}
 use Rattle.key_rows.proofs.entries.Entries.copy_part.Goals as goal
 
@@ -15,9 +15,8 @@ overflow_mul-at c =
     let k = c.self.inside.key_length in
     let n = c.self.inside.count in
     let b = c.self.inside.bytes.items in
-    let items : pairs_in k n b ≡ c.args.self.now.items = ap (λ (v : FlatView). v.items) c.self.view_is in
-    let count : n ≡ length c.args.self.now.items =
-    sym (length-pairs_in k n b) ∙ ap (λ (m : List Pair). length m) items in
+    let items = pairs_of k n _ b c.args.self.now c.self.view_is in
+    let count = count_of k n b c.args.self.now.items items in
     let within : c.args.at + c.args.size ≤ n = omega (arith, count, c.requires.within) in
     omega (
       arith,
@@ -32,9 +31,8 @@ overflow_mul-size c =
     let k = c.self.inside.key_length in
     let n = c.self.inside.count in
     let b = c.self.inside.bytes.items in
-    let items : pairs_in k n b ≡ c.args.self.now.items = ap (λ (v : FlatView). v.items) c.self.view_is in
-    let count : n ≡ length c.args.self.now.items =
-    sym (length-pairs_in k n b) ∙ ap (λ (m : List Pair). length m) items in
+    let items = pairs_of k n _ b c.args.self.now c.self.view_is in
+    let count = count_of k n b c.args.self.now.items items in
     let within : c.args.at + c.args.size ≤ n = omega (arith, count, c.requires.within) in
     omega (
       arith,
@@ -49,9 +47,8 @@ part-requires c =
     let k = c.self.inside.key_length in
     let n = c.self.inside.count in
     let b = c.self.inside.bytes.items in
-    let items : pairs_in k n b ≡ c.args.self.now.items = ap (λ (v : FlatView). v.items) c.self.view_is in
-    let count : n ≡ length c.args.self.now.items =
-    sym (length-pairs_in k n b) ∙ ap (λ (m : List Pair). length m) items in
+    let items = pairs_of k n _ b c.args.self.now c.self.view_is in
+    let count = count_of k n b c.args.self.now.items items in
     let within : c.args.at + c.args.size ≤ n = omega (arith, count, c.requires.within) in
     omega (
       arith,
@@ -65,9 +62,8 @@ add_bytes-requires c =
     let k = c.self.inside.key_length in
     let n = c.self.inside.count in
     let b = c.self.inside.bytes.items in
-    let items : pairs_in k n b ≡ c.args.self.now.items = ap (λ (v : FlatView). v.items) c.self.view_is in
-    let count : n ≡ length c.args.self.now.items =
-    sym (length-pairs_in k n b) ∙ ap (λ (m : List Pair). length m) items in
+    let items = pairs_of k n _ b c.args.self.now c.self.view_is in
+    let count = count_of k n b c.args.self.now.items items in
     let within : c.args.at + c.args.size ≤ n = omega (arith, count, c.requires.within) in
     let some = c.if-size-eq0.false in
     let j = c.requires.alike.0 in
@@ -76,8 +72,8 @@ add_bytes-requires c =
     let i = c.to.inside.key_length in
     let m = c.to.inside.count in
     let t = c.to.inside.bytes.items in
-    let others : pairs_in i m t ≡ c.args.to.now.items = ap (λ (v : FlatView). v.items) c.to.view_is in
-    let most : m ≡ length c.args.to.now.items = sym (length-pairs_in i m t) ∙ ap (λ (l : List Pair). length l) others in
+    let others = pairs_of i m _ t c.args.to.now c.to.view_is in
+    let most = count_of i m t c.args.to.now.items others in
     let keys : HaveKeys k (pairs_in i m t) = subst (λ (l : List Pair). HaveKeys k l) (sym others)
     (subst (λ h. HaveKeys h c.args.to.now.items) (sym same) c.requires.alike.2) in
     let a = adopted i k m t c.to.invariant.whole keys in
@@ -105,9 +101,8 @@ invariant_of-to c =
     let k = c.self.inside.key_length in
     let n = c.self.inside.count in
     let b = c.self.inside.bytes.items in
-    let items : pairs_in k n b ≡ c.args.self.now.items = ap (λ (v : FlatView). v.items) c.self.view_is in
-    let count : n ≡ length c.args.self.now.items =
-    sym (length-pairs_in k n b) ∙ ap (λ (m : List Pair). length m) items in
+    let items = pairs_of k n _ b c.args.self.now c.self.view_is in
+    let count = count_of k n b c.args.self.now.items items in
     let within : c.args.at + c.args.size ≤ n = omega (arith, count, c.requires.within) in
     let some = c.if-size-eq0.false in
     let j = c.requires.alike.0 in
@@ -116,8 +111,7 @@ invariant_of-to c =
     let i = c.to.inside.key_length in
     let m = c.to.inside.count in
     let t = c.to.inside.bytes.items in
-    let others : pairs_in i m t ≡ c.args.to.now.items = ap (λ (v : FlatView). v.items) c.to.view_is in
-    let most : m ≡ length c.args.to.now.items = sym (length-pairs_in i m t) ∙ ap (λ (l : List Pair). length l) others in
+    let others = pairs_of i m _ t c.args.to.now c.to.view_is in
     let keys : HaveKeys k (pairs_in i m t) = subst (λ (l : List Pair). HaveKeys k l) (sym others)
     (subst (λ h. HaveKeys h c.args.to.now.items) (sym same) c.requires.alike.2) in
     let a = adopted i k m t c.to.invariant.whole keys in
@@ -134,9 +128,8 @@ returns-clause-items c =
     let k = c.self.inside.key_length in
     let n = c.self.inside.count in
     let b = c.self.inside.bytes.items in
-    let items : pairs_in k n b ≡ c.args.self.now.items = ap (λ (v : FlatView). v.items) c.self.view_is in
-    let count : n ≡ length c.args.self.now.items =
-    sym (length-pairs_in k n b) ∙ ap (λ (m : List Pair). length m) items in
+    let items = pairs_of k n _ b c.args.self.now c.self.view_is in
+    let count = count_of k n b c.args.self.now.items items in
     let within : c.args.at + c.args.size ≤ n = omega (arith, count, c.requires.within) in
     let some = c.if-size-eq0.false in
     let j = c.requires.alike.0 in
@@ -145,8 +138,7 @@ returns-clause-items c =
     let i = c.to.inside.key_length in
     let m = c.to.inside.count in
     let t = c.to.inside.bytes.items in
-    let others : pairs_in i m t ≡ c.args.to.now.items = ap (λ (v : FlatView). v.items) c.to.view_is in
-    let most : m ≡ length c.args.to.now.items = sym (length-pairs_in i m t) ∙ ap (λ (l : List Pair). length l) others in
+    let others = pairs_of i m _ t c.args.to.now c.to.view_is in
     let keys : HaveKeys k (pairs_in i m t) = subst (λ (l : List Pair). HaveKeys k l) (sym others)
     (subst (λ h. HaveKeys h c.args.to.now.items) (sym same) c.requires.alike.2) in
     let a = adopted i k m t c.to.invariant.whole keys in

@@ -3,7 +3,7 @@ use Rattle.std.specs.List.{insert}
 use Rattle.byteorder.specs.Endian.{little_bytes}
 use Rattle.key_lists.specs.Pairs.{Pair}
 use Rattle.key_rows.specs.Flat.{FlatView, HaveKeys, pairs_in}
-use Rattle.key_rows.proofs.FlatLemmas.{length-pairs_in, place_at_most, next_place, adopted, length-put, pairs_put}
+use Rattle.key_rows.proofs.FlatLemmas.{place_at_most, next_place, adopted, length-put, pairs_put, pairs_of, count_of}
 use Rattle.key_rows.proofs.entries.Entries.put_pair.Goals as goal
 
 pub put_bytes-requires-clause-within : goal.put_bytes-requires-clause-within
@@ -11,9 +11,8 @@ put_bytes-requires-clause-within c =
     let k = c.self.inside.key_length in
     let n = c.self.inside.count in
     let b = c.self.inside.bytes.items in
-    let items : pairs_in k n b ≡ c.args.self.now.items = ap (λ (v : FlatView). v.items) c.self.view_is in
-    let count : n ≡ length c.args.self.now.items =
-    sym (length-pairs_in k n b) ∙ ap (λ (m : List Pair). length m) items in
+    let items = pairs_of k n _ b c.args.self.now c.self.view_is in
+    let count = count_of k n b c.args.self.now.items items in
     let j = length c.args.key.now in
     let keys : HaveKeys j (pairs_in k n b) = subst (λ (m : List Pair). HaveKeys j m) (sym items) c.requires.alike in
     let a = adopted k j n b c.self.invariant.whole keys in
@@ -31,9 +30,8 @@ put_bytes-requires-clause-room c =
     let k = c.self.inside.key_length in
     let n = c.self.inside.count in
     let b = c.self.inside.bytes.items in
-    let items : pairs_in k n b ≡ c.args.self.now.items = ap (λ (v : FlatView). v.items) c.self.view_is in
-    let count : n ≡ length c.args.self.now.items =
-    sym (length-pairs_in k n b) ∙ ap (λ (m : List Pair). length m) items in
+    let items = pairs_of k n _ b c.args.self.now c.self.view_is in
+    let count = count_of k n b c.args.self.now.items items in
     let j = length c.args.key.now in
     let keys : HaveKeys j (pairs_in k n b) = subst (λ (m : List Pair). HaveKeys j m) (sym items) c.requires.alike in
     let a = adopted k j n b c.self.invariant.whole keys in
@@ -56,9 +54,8 @@ invariant_of-self c =
     let k = c.self.inside.key_length in
     let n = c.self.inside.count in
     let b = c.self.inside.bytes.items in
-    let items : pairs_in k n b ≡ c.args.self.now.items = ap (λ (v : FlatView). v.items) c.self.view_is in
-    let count : n ≡ length c.args.self.now.items =
-    sym (length-pairs_in k n b) ∙ ap (λ (m : List Pair). length m) items in
+    let items = pairs_of k n _ b c.args.self.now c.self.view_is in
+    let count = count_of k n b c.args.self.now.items items in
     let j = length c.args.key.now in
     let keys : HaveKeys j (pairs_in k n b) = subst (λ (m : List Pair). HaveKeys j m) (sym items) c.requires.alike in
     let a = adopted k j n b c.self.invariant.whole keys in
@@ -77,9 +74,8 @@ returns-clause-items c =
     let k = c.self.inside.key_length in
     let n = c.self.inside.count in
     let b = c.self.inside.bytes.items in
-    let items : pairs_in k n b ≡ c.args.self.now.items = ap (λ (v : FlatView). v.items) c.self.view_is in
-    let count : n ≡ length c.args.self.now.items =
-    sym (length-pairs_in k n b) ∙ ap (λ (m : List Pair). length m) items in
+    let items = pairs_of k n _ b c.args.self.now c.self.view_is in
+    let count = count_of k n b c.args.self.now.items items in
     let j = length c.args.key.now in
     let keys : HaveKeys j (pairs_in k n b) = subst (λ (m : List Pair). HaveKeys j m) (sym items) c.requires.alike in
     let a = adopted k j n b c.self.invariant.whole keys in

@@ -1,7 +1,6 @@
-use Rattle.std.proofs.Common.{◌≡◌, ℕ, List, length, take, sym, ap, ◌∙◌, arith}
-use Rattle.key_lists.specs.Pairs.{Pair}
-use Rattle.key_rows.specs.Flat.{FlatView, pairs_in}
-use Rattle.key_rows.proofs.FlatLemmas.{length-pairs_in, place_at_most, length-cut, pairs_cut}
+use Rattle.std.proofs.Common.{ℕ, List, length, take, ap, ◌∙◌, arith}
+use Rattle.key_rows.specs.Flat.{pairs_in}
+use Rattle.key_rows.proofs.FlatLemmas.{place_at_most, length-cut, pairs_cut, pairs_of, count_of}
 use Rattle.key_rows.proofs.entries.Entries.truncate.Goals as goal
 
 pub overflow_mul-kept : goal.overflow_mul-kept
@@ -9,9 +8,8 @@ overflow_mul-kept c =
     let k = c.self.inside.key_length in
     let n = c.self.inside.count in
     let b = c.self.inside.bytes.items in
-    let items : pairs_in k n b ≡ c.args.self.now.items = ap (λ (v : FlatView). v.items) c.self.view_is in
-    let count : n ≡ length c.args.self.now.items =
-    sym (length-pairs_in k n b) ∙ ap (λ (m : List Pair). length m) items in
+    let items = pairs_of k n _ b c.args.self.now c.self.view_is in
+    let count = count_of k n b c.args.self.now.items items in
     omega (
       arith,
       place_at_most k c.args.kept n b c.self.invariant.whole (omega (arith, count, c.requires)),
@@ -25,9 +23,8 @@ invariant_of-self c =
     let k = c.self.inside.key_length in
     let n = c.self.inside.count in
     let b = c.self.inside.bytes.items in
-    let items : pairs_in k n b ≡ c.args.self.now.items = ap (λ (v : FlatView). v.items) c.self.view_is in
-    let count : n ≡ length c.args.self.now.items =
-    sym (length-pairs_in k n b) ∙ ap (λ (m : List Pair). length m) items in
+    let items = pairs_of k n _ b c.args.self.now c.self.view_is in
+    let count = count_of k n b c.args.self.now.items items in
     record {
       whole = ap (λ (r : List ℕ). length r) c.truncate.ensures.items
           ∙ length-cut k c.args.kept n b c.self.invariant.whole (omega (arith, count, c.requires));
@@ -40,8 +37,7 @@ returns-clause-items c =
     let k = c.self.inside.key_length in
     let n = c.self.inside.count in
     let b = c.self.inside.bytes.items in
-    let items : pairs_in k n b ≡ c.args.self.now.items = ap (λ (v : FlatView). v.items) c.self.view_is in
-    let count : n ≡ length c.args.self.now.items =
-    sym (length-pairs_in k n b) ∙ ap (λ (m : List Pair). length m) items in
+    let items = pairs_of k n _ b c.args.self.now c.self.view_is in
+    let count = count_of k n b c.args.self.now.items items in
     ap (pairs_in k c.args.kept) c.truncate.ensures.items ∙ pairs_cut k c.args.kept n b c.self.invariant.whole
     (omega (arith, count, c.requires)) ∙ ap (take c.args.kept) items
