@@ -6,6 +6,12 @@
 /// Faults, rules, calls and returns, over the constant `.T.` and the table T without records.
 pub const FAULTS: &str = "%table T.DBF K C 1 0
 %constants L 1|
+#CENTURY in a code of the first version
+%code 0x46 3 1 0; 0x14 0 0 0;
+%verdict refused hand.xbc Operation
+#CENTURY in a code of the second version
+%set 4 2%code 0x46 3 1 0; 0x14 0 0 0;
+%verdict accepted
 #a slot that is unset
 %stack 1%slots 1%code 0x02 4 0 0; 0x14 0 0 0;
 %verdict Unset 0%checked 100 fault Unset 0 0

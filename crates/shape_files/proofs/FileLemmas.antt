@@ -152,7 +152,10 @@ line_told (Refused (Line told f)) holds read all rest behind text n s a b c e sa
   faulty = fault_before holds read s (said_in_line text) f same t.1;
 }
 line_told Disk holds read all rest behind text n s a b c e same p l m t = absurd t
-line_told (TableDisk name) holds read all rest behind text n s a b c e same p l m t = rose_later a b c l m t
+line_told (TableDisk name) holds read all rest behind text n s a b c e same p l m t = (
+  record { front = p.front; text = text; behind = behind; cut = p.cut ∙ ap (λ r. p.front ++ r) e; says = t.0 },
+  rose_later a b c l m t.1,
+)
 line_told Memory holds read all rest behind text n s a b c e same p l m t = tt
 
 pub lines_told : (r : ShapeRefusal) (first read : Holds) (name bytes : List ℕ) (a b c : ℕ) → SameFiles first read
@@ -175,5 +178,6 @@ lines_told (Refused (Line number f)) first read name bytes a b c same held l m t
   };
 }
 lines_told Disk first read name bytes a b c same held l m t = absurd t
-lines_told (TableDisk table) first read name bytes a b c same held l m t = rose_later a b c l m t
+lines_told (TableDisk table) first read name bytes a b c same held l m t =
+    (record { bytes = bytes; held = held; said = t.0 }, rose_later a b c l m t.1)
 lines_told Memory first read name bytes a b c same held l m t = tt

@@ -1,5 +1,5 @@
 -- Lines that are judged one after the other.
-use Rattle.std.proofs.Common.{◌≡◌, ◌≤◌, ◌+◌, ℕ, List, [], ◌∷◌, ◌++◌, length, length-append, append_assoc, append-nil}
+use Rattle.std.proofs.Common.{◌≡◌, ◌≤◌, ◌+◌, ℕ, List, [], ◌∷◌, ◌++◌, Some, length, length-append, append_assoc, append-nil}
 use Rattle.std.proofs.Common.{refl, sym, ap, ◌∙◌, subst, arith}
 use Rattle.file_access.specs.Holding.{Holds, SameFiles}
 use Rattle.shape.specs.declared.whole.Shape.{Shape}
@@ -8,7 +8,9 @@ use Rattle.shape_files.specs.declared.refusal.DeclFault.TheVariants.{Line}
 use Rattle.shape_files.specs.declared.refusal.ShapeRefusal.{ShapeRefusal}
 use Rattle.shape_files.specs.declared.refusal.ShapeRefusal.TheVariants.{Refused, Disk, TableDisk, Memory}
 use Rattle.shape_files.specs.Lines.{said_in_line}
-use Rattle.shape_files.specs.Listing.{Faulty, Further, Good, IsNoLine, IsOfDevice, JudgedLine, JudgedLines, NoLines}
+use Rattle.shape_files.specs.Listing.{Faulty, Further, Good, IsNoLine, IsOfDevice, IsOfDeviceAtOne, JudgedLine}
+use Rattle.shape_files.specs.Listing.{JudgedLines, NoLines}
+use Rattle.text_lines.specs.Lines.{lines}
 use Rattle.shape_files.specs.Refusals.{ShapeRefusalIs}
 use Rattle.shape_files.specs.Shapes.{Declare, no_shape}
 use Rattle.file_access.proofs.Holding.{rose_later}
@@ -81,21 +83,27 @@ none_faulty a ls s found (Further front text before after earlier more all one) 
 
 -- ---- what is refused
 
-pub device_later : (r : ShapeRefusal) (a b c : ℕ) → a ≤ b → b ≤ c → IsOfDevice b c r → IsOfDevice a c r
-device_later (Refused f) a b c l m t = absurd t
-device_later Disk a b c l m t = rose_later a b c l m t
-device_later (TableDisk name) a b c l m t = rose_later a b c l m t
-device_later Memory a b c l m t = tt
+pub device_at : (r : ShapeRefusal) (holds : Holds) (all rest behind : List (List ℕ)) (text : List ℕ) (n : ℕ)
+    (s : Shape) (found : List DeclFault) (a b c : ℕ) → rest ≡ text ∷ behind → Judged holds all rest n s found → a ≤ b
+    → b ≤ c → IsOfDevice (said_in_line text) b c r → IsOfDeviceAtOne all a c r
+device_at (Refused f) holds all rest behind text n s found a b c e p l m t = absurd t
+device_at Disk holds all rest behind text n s found a b c e p l m t = absurd t
+device_at (TableDisk name) holds all rest behind text n s found a b c e p l m t = (
+  record { front = p.front; text = text; behind = behind; cut = p.cut ∙ ap (λ r. p.front ++ r) e; says = t.0 },
+  rose_later a b c l m t.1,
+)
+device_at Memory holds all rest behind text n s found a b c e p l m t = tt
 
-pub device_told : (r : ShapeRefusal) (holds : Holds) (name : List ℕ) (a b : ℕ) → IsOfDevice a b r
-    → ShapeRefusalIs holds name a b r
-device_told (Refused f) holds name a b t = absurd t
-device_told Disk holds name a b t = t
-device_told (TableDisk table) holds name a b t = t
-device_told Memory holds name a b t = tt
+pub device_told : (r : ShapeRefusal) (holds : Holds) (name bytes : List ℕ) (a b c : ℕ) → holds name (Some bytes)
+    → a ≤ b → b ≤ c → IsOfDeviceAtOne (lines bytes) b c r → ShapeRefusalIs holds name a c r
+device_told (Refused f) holds name bytes a b c held l m t = absurd t
+device_told Disk holds name bytes a b c held l m t = absurd t
+device_told (TableDisk table) holds name bytes a b c held l m t =
+    (record { bytes = bytes; held = held; said = t.0 }, rose_later a b c l m t.1)
+device_told Memory holds name bytes a b c held l m t = tt
 
-pub no_line_of : (r : ShapeRefusal) (a b : ℕ) → IsOfDevice a b r → IsNoLine r
-no_line_of (Refused f) a b t = absurd t
-no_line_of Disk a b t = tt
-no_line_of (TableDisk table) a b t = tt
-no_line_of Memory a b t = tt
+pub no_line_of : (r : ShapeRefusal) (all : List (List ℕ)) (a b : ℕ) → IsOfDeviceAtOne all a b r → IsNoLine r
+no_line_of (Refused f) all a b t = absurd t
+no_line_of Disk all a b t = absurd t
+no_line_of (TableDisk table) all a b t = tt
+no_line_of Memory all a b t = tt

@@ -1,6 +1,6 @@
 -- Why a line isn't taken, from why its parts aren't.
 use Rattle.std.proofs.Common.{◌≡◌, ◌<◌, ◌≤◌, ℕ, true, false, not, List, length}
-use Rattle.std.proofs.Common.{inl, inr, sym, subst, arith}
+use Rattle.std.proofs.Common.{inl, inr, sym, ap, subst, arith}
 use Rattle.std.specs.Prelude.{◌⊎◌, Some, Result, Ok, Err, IfErr}
 use Rattle.std.specs.Str.{IsUtf8}
 use Rattle.std.proofs.lemmas.Bool.{and_parts}
@@ -55,7 +55,7 @@ fields_told holds s name a b (line.Fault f) texts new room t =
     let said = (and_parts (is_file_name name) (not (is_table_named s.tables name)) new).0 in
     subst (λ (x : LineFault). LineRefusalIs holds s (Table name) a b (line.Fault x)) (sym t.0)
     (new, room, inl (no_table holds name (texts name said) t.1))
-fields_told holds s name a b (line.Disk table) texts new room t = t
+fields_told holds s name a b (line.Disk table) texts new room t = (ap Table (sym t.0), t.1)
 fields_told holds s name a b line.Memory texts new room t = tt
 
 -- a table that a line says can't be added

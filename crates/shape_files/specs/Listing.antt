@@ -8,8 +8,8 @@ use Rattle.shape_files.specs.declared.refusal.DeclFault.TheVariants.{Absent, Too
 use Rattle.shape_files.specs.declared.refusal.LineFault.{LineFault}
 use Rattle.shape_files.specs.declared.refusal.ShapeRefusal.{ShapeRefusal}
 use Rattle.shape_files.specs.declared.refusal.ShapeRefusal.TheVariants.{Refused, Disk, TableDisk, Memory}
-use Rattle.shape_files.specs.Lines.{said_in_line}
-use Rattle.shape_files.specs.Refusals.{LineFaultIs}
+use Rattle.shape_files.specs.Lines.{Said, Table, said_in_line}
+use Rattle.shape_files.specs.Refusals.{IsTableSaid, LineFaultIs}
 use Rattle.shape_files.specs.Shapes.{LineDeclares, no_shape}
 
 -- A line more, that of this number: it declares something, or it has a fault, is listed with it, and declares nothing.
@@ -43,9 +43,16 @@ IsNoLine Disk = Unit {0}
 IsNoLine (TableDisk table) = Unit {0}
 IsNoLine Memory = Unit {0}
 
--- a device failure that was counted, or memory
-abbrev pub IsOfDevice : ℕ → ℕ → ShapeRefusal → Type 0
-IsOfDevice before after (Refused f) = ⊥
-IsOfDevice before after Disk = Rose before after
-IsOfDevice before after (TableDisk table) = Rose before after
-IsOfDevice before after Memory = Unit {0}
+-- at a line that says this, a device failure that was counted, at the file of its table, or memory
+abbrev pub IsOfDevice : Said → ℕ → ℕ → ShapeRefusal → Type 0
+IsOfDevice says before after (Refused f) = ⊥
+IsOfDevice says before after Disk = ⊥
+IsOfDevice says before after (TableDisk table) = (says ≡ Table table.items) × Rose before after
+IsOfDevice says before after Memory = Unit {0}
+
+-- the same at one of the lines
+abbrev pub IsOfDeviceAtOne : List (List ℕ) → ℕ → ℕ → ShapeRefusal → Type 0
+IsOfDeviceAtOne all before after (Refused f) = ⊥
+IsOfDeviceAtOne all before after Disk = ⊥
+IsOfDeviceAtOne all before after (TableDisk table) = IsTableSaid all table.items × Rose before after
+IsOfDeviceAtOne all before after Memory = Unit {0}

@@ -96,22 +96,38 @@ pub record IsFaulty (holds : Holds) (name : List ℕ) (number : ℕ) (f : LineFa
   pub held : holds name (Some bytes)
   pub line : IsFaultyLine holds (lines bytes) number f
 
+-- the name is that of a table which one of the lines says
+pub record IsTableSaid (all : List (List ℕ)) (name : List ℕ) : Type 0 where
+  pub front : List (List ℕ)
+  pub text : List ℕ
+  pub behind : List (List ℕ)
+  pub cut : all ≡ front ++ text ∷ behind
+  pub says : said_in_line text ≡ Table name
+
+-- so does a line of the file of that name
+pub record IsTableSaidIn (holds : Holds) (name table : List ℕ) : Type 0 where
+  pub bytes : List ℕ
+  pub held : holds name (Some bytes)
+  pub said : IsTableSaid (lines bytes) table
+
 abbrev pub DeclFaultIs : Holds → List ℕ → DeclFault → Type 0
 DeclFaultIs holds name Absent = holds name None
 DeclFaultIs holds name TooLong = IsTooLong (holds name)
 DeclFaultIs holds name (Line number f) = IsFaulty holds name number f
 
--- a fault that the declaration file has, a device failure that was counted, or memory
+-- a fault that the declaration file has, a device failure that was counted, at the file or at that of a table which it
+-- names, or memory
 abbrev pub ShapeRefusalIs : Holds → List ℕ → ℕ → ℕ → ShapeRefusal → Type 0
 ShapeRefusalIs holds name before after (Refused f) = DeclFaultIs holds name f
 ShapeRefusalIs holds name before after Disk = Rose before after
-ShapeRefusalIs holds name before after (TableDisk table) = Rose before after
+ShapeRefusalIs holds name before after (TableDisk table) =
+    IsTableSaidIn holds name table.items × Rose before after
 ShapeRefusalIs holds name before after Memory = Unit {0}
 
 -- the same of a line that says this, behind lines that declare the shape
 abbrev pub LineRefusalIs : Holds → Shape → Said → ℕ → ℕ → LineRefusal → Type 0
 LineRefusalIs holds shape says before after (line.Fault f) = LineFaultIs holds shape says f
-LineRefusalIs holds shape says before after (line.Disk table) = Rose before after
+LineRefusalIs holds shape says before after (line.Disk table) = (says ≡ Table table.items) × Rose before after
 LineRefusalIs holds shape says before after line.Memory = Unit {0}
 
 -- the same of a line that says an index, at which no device can fail
@@ -125,7 +141,7 @@ IndexRefusalIs shape name table key line.Memory = Unit {0}
 abbrev pub FieldsRefusalIs : Holds → List ℕ → ℕ → ℕ → LineRefusal → Type 0
 FieldsRefusalIs holds name before after (line.Fault f) = (f ≡ fault.Table)
     × (((¬ (IsUtf8 name)) ⊎ (8 < length name)) ⊎ LacksTable (holds (file_name name)))
-FieldsRefusalIs holds name before after (line.Disk table) = Rose before after
+FieldsRefusalIs holds name before after (line.Disk table) = (table.items ≡ name) × Rose before after
 FieldsRefusalIs holds name before after line.Memory = Unit {0}
 
 -- the same as that of a line, with the line's number
@@ -135,7 +151,7 @@ AtLineIs holds number shape says before after (Refused TooLong) = ⊥
 AtLineIs holds number shape says before after (Refused (Line told f)) =
     (told ≡ number) × LineFaultIs holds shape says f
 AtLineIs holds number shape says before after Disk = ⊥
-AtLineIs holds number shape says before after (TableDisk table) = Rose before after
+AtLineIs holds number shape says before after (TableDisk table) = (says ≡ Table table.items) × Rose before after
 AtLineIs holds number shape says before after Memory = Unit {0}
 
 -- the same of all lines
@@ -144,5 +160,5 @@ LinesRefusalIs holds all before after (Refused Absent) = ⊥
 LinesRefusalIs holds all before after (Refused TooLong) = ⊥
 LinesRefusalIs holds all before after (Refused (Line number f)) = IsFaultyLine holds all number f
 LinesRefusalIs holds all before after Disk = ⊥
-LinesRefusalIs holds all before after (TableDisk table) = Rose before after
+LinesRefusalIs holds all before after (TableDisk table) = IsTableSaid all table.items × Rose before after
 LinesRefusalIs holds all before after Memory = Unit {0}

@@ -4,7 +4,9 @@ ghost use Rattle.std.specs.Prelude.{◌≡◌, ◌≤◌, [], true, IfErr, IfOk,
 ghost use Rattle.file_access.specs.Holding.{SameFiles};
 ghost use Rattle.shape.specs.Whole.{is_shape};
 ghost use Rattle.text_lines.specs.Lines.{lines};
-ghost use Rattle.shape_files.specs.Listing.{IsNoLine, IsOfDevice, JudgedDeclarations, JudgedLine, JudgedLines};
+ghost use Rattle.shape_files.specs.Lines.{said_in_line};
+ghost use Rattle.shape_files.specs.Listing.{IsNoLine, IsOfDevice, IsOfDeviceAtOne};
+ghost use Rattle.shape_files.specs.Listing.{JudgedDeclarations, JudgedLine, JudgedLines};
 ghost use Rattle.shape_files.specs.Refusals.{ShapeRefusalIs};
 ghost use Rattle.shape_files.specs.Shapes.{IsDeclared, shape_of};
 
@@ -38,7 +40,7 @@ fn judge<F: Files>(
         (shape_of declarations.new) found.old.items found.new.items) }
     ensures legal { is_shape (shape_of declarations.old) ≡ true
         → OnOk result (is_shape (shape_of declarations.new) ≡ true) }
-    ensures refused { IfErr result (IsOfDevice (F.failed files.old) (F.failed files.new)) }
+    ensures refused { IfErr result (IsOfDevice (said_in_line text.now) (F.failed files.old) (F.failed files.new)) }
     ensures counted { F.failed files.old ≤ F.failed files.new }
     ensures kept { SameFiles (F.holds files.old) (F.holds files.new) }
 {
@@ -62,7 +64,7 @@ fn judge_all<F: Files>(
     ensures judged { IfOk result (λ listed. JudgedLines (F.holds files.old) (lines bytes.now) listed.shape
         listed.faults.items) }
     ensures legal { IfOk result (λ listed. is_shape listed.shape ≡ true) }
-    ensures refused { IfErr result (IsOfDevice (F.failed files.old) (F.failed files.new)) }
+    ensures refused { IfErr result (IsOfDeviceAtOne (lines bytes.now) (F.failed files.old) (F.failed files.new)) }
     ensures counted { F.failed files.old ≤ F.failed files.new }
     ensures kept { SameFiles (F.holds files.old) (F.holds files.new) }
 {

@@ -43,7 +43,7 @@ fn declare_table<F: Files>(
     if MOST_TABLES <= declarations.tables.len() {
         return Err(LineRefusal::Fault(LineFault::Limit));
     }
-    match read_fields(alloc, files, name.as_slice()) {
+    match read_fields(alloc, files, &name) {
         Ok(fields) => declarations.add_table(TableShape {
             name,
             fields: Items::of(fields),

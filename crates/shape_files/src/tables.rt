@@ -12,6 +12,7 @@ use crate::refusal::{LineFault, LineRefusal};
 use dbf_file::{DbfFault, Field, read};
 use file_access::{FILE_LIMIT, Files, ReadFault};
 use prg_expr::name_of;
+use shape::{Name, copy_of_name};
 use std::alloc::{AllocError, Global};
 
 /// The most rows of a table.
@@ -41,20 +42,20 @@ pub fn capital_fields(alloc: Global, fields: &[Field]) -> Result<Vec<Field>, All
 }
 
 /// The bytes of the file of the table of that name.
-fn table_bytes<F: Files>(alloc: Global, files: &mut F, name: &[u8]) -> Result<Vec<u8>, LineRefusal>
-    ensures held { IfOk result (λ bytes. F.holds files.old (file_name name.now) (Some bytes.items)) }
+fn table_bytes<F: Files>(alloc: Global, files: &mut F, name: &Name) -> Result<Vec<u8>, LineRefusal>
+    ensures held { IfOk result (λ bytes. F.holds files.old (file_name name.now.items) (Some bytes.items)) }
     ensures short { IfOk result (λ bytes. length bytes.items ≤ 67108864) }
-    ensures refused { IfErr result (FieldsRefusalIs (F.holds files.old) name.now (F.failed files.old)
+    ensures refused { IfErr result (FieldsRefusalIs (F.holds files.old) name.now.items (F.failed files.old)
         (F.failed files.new)) }
     ensures counted { F.failed files.old ≤ F.failed files.new }
     ensures kept { SameFiles (F.holds files.old) (F.holds files.new) }
 {
-    let Some(file) = file_of(name) else {
+    let Some(file) = file_of(name.as_slice()) else {
         return Err(LineRefusal::Fault(LineFault::Table));
     };
     match files.read(alloc, file.as_str(), FILE_LIMIT) {
         Ok(bytes) => Ok(bytes),
-        Err(ReadFault::Device) => Err(LineRefusal::Disk(name_of(name))),
+        Err(ReadFault::Device) => Err(LineRefusal::Disk(copy_of_name(name))),
         Err(ReadFault::Memory) => Err(LineRefusal::Memory),
         Err(ReadFault::Absent) => Err(LineRefusal::Fault(LineFault::Table)),
         Err(ReadFault::TooLong) => Err(LineRefusal::Fault(LineFault::Table)),
@@ -80,10 +81,10 @@ fn fields_in(alloc: Global, bytes: &[u8]) -> Result<Vec<Field>, LineRefusal>
 pub fn read_fields<F: Files>(
     alloc: Global,
     files: &mut F,
-    name: &[u8],
+    name: &Name,
 ) -> Result<Vec<Field>, LineRefusal>
-    ensures fields { IfOk result (λ fields. HasFields (F.holds files.old (file_name name.now)) fields.items) }
-    ensures refused { IfErr result (FieldsRefusalIs (F.holds files.old) name.now (F.failed files.old)
+    ensures fields { IfOk result (λ fields. HasFields (F.holds files.old (file_name name.now.items)) fields.items) }
+    ensures refused { IfErr result (FieldsRefusalIs (F.holds files.old) name.now.items (F.failed files.old)
         (F.failed files.new)) }
     ensures counted { F.failed files.old ≤ F.failed files.new }
     ensures kept { SameFiles (F.holds files.old) (F.holds files.new) }

@@ -11,7 +11,7 @@ use Rattle.shape_files.specs.Listing.{JudgedLines}
 use Rattle.shape_files.specs.Shapes.{no_shape, shape_of}
 use Rattle.file_access.proofs.Holding.{same_self, same_then}
 use Rattle.shape_files.proofs.FileLemmas.{no_lines}
-use Rattle.shape_files.proofs.ListingLemmas.{Judged, all_judged, device_later, line_before, none_judged, one_judged}
+use Rattle.shape_files.proofs.ListingLemmas.{Judged, all_judged, device_at, line_before, none_judged, one_judged}
 use Rattle.shape_files.proofs.ShapeLemmas.{nothing_legal}
 use Rattle.shape_files.proofs.listing.judge_all.Goals as goal
 
@@ -57,8 +57,10 @@ returns-in_err-judge-clause-refused g c =
     let p = err_from_is_err_and c.from_residual.result c.from_residual.ensures.1 in
     let i = c.loop-rest.invariant in
     rw (p.1, p.2)
-    (device_later c.in_err-judge.field-0.0 (g.F.Files.failed c.args.files.now) (g.F.Files.failed c.loop-rest.files)
-    (g.F.Files.failed c.judge.new.files)
+    (device_at c.in_err-judge.field-0.0 (g.F.Files.holds c.args.files.now) (lines c.args.bytes.now)
+    (lines c.loop-rest.rest.now) (lines c.first_line.result.1.now) c.first_line.result.0.now c.loop-rest.line
+    (shape_of c.loop-rest.declarations) c.loop-rest.found.items (g.F.Files.failed c.args.files.now)
+    (g.F.Files.failed c.loop-rest.files) (g.F.Files.failed c.judge.new.files) c.first_line.ensures.first i.judged
     i.counted c.judge.ensures.counted c.in_err-judge.ensures.refused)
 
 pub returns-in_err-judge-clause-counted : goal.returns-in_err-judge-clause-counted

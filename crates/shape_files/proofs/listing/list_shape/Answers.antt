@@ -1,8 +1,8 @@
 -- What stands in the file.
 use Rattle.std.proofs.Common.{List, ℕ, subst}
 use Rattle.text_lines.specs.Lines.{lines}
-use Rattle.shape_files.specs.Listing.{JudgedLines}
-use Rattle.shape_files.proofs.ListingLemmas.{device_later, device_told, lines_before, no_line_of, none_faulty}
+use Rattle.shape_files.specs.Listing.{IsOfDeviceAtOne, JudgedLines}
+use Rattle.shape_files.proofs.ListingLemmas.{device_told, lines_before, no_line_of, none_faulty}
 use Rattle.shape_files.proofs.listing.list_shape.Goals as goal
 
 pub returns-in-Ok-clause-judged : goal.returns-in-Ok-clause-judged
@@ -38,11 +38,12 @@ returns-clause-refused g c =
     let before = g.F.Files.failed c.args.files.now in
     let read = g.F.Files.failed c.declaration_bytes.new.files in
     let after = g.F.Files.failed c.judge_all.new.files in
-    device_told c.in-Err.refusal (g.F.Files.holds c.args.files.now) c.args.decl.now before after
-    (device_later c.in-Err.refusal before read after c.declaration_bytes.ensures.counted c.judge_all.ensures.counted
+    device_told c.in-Err.refusal (g.F.Files.holds c.args.files.now) c.args.decl.now c.in_ok-bytes.bytes.items before
+    read after c.in_ok-bytes.ensures.held c.declaration_bytes.ensures.counted c.judge_all.ensures.counted
+    (subst (λ (b : List ℕ). IsOfDeviceAtOne (lines b) read after c.in-Err.refusal) c.as_slice.ensures.value
     c.in-Err.ensures.refused)
 
 pub returns-clause-lines : goal.returns-clause-lines
 returns-clause-lines g c =
-    no_line_of c.in-Err.refusal (g.F.Files.failed c.declaration_bytes.new.files)
+    no_line_of c.in-Err.refusal (lines c.as_slice.result.now) (g.F.Files.failed c.declaration_bytes.new.files)
     (g.F.Files.failed c.judge_all.new.files) c.in-Err.ensures.refused

@@ -9,7 +9,7 @@ pub returns-in-Ok-clause-refused : goal.returns-in-Ok-clause-refused
 returns-in-Ok-clause-refused g c =
     let holds = g.F.Files.holds c.args.files.now in
     let room : length c.args.declarations.now.tables.items < 32 = search rules in
-    let named = c.as_slice.ensures.value ∙ c.in-Some.ensures.0 in
+    let named = c.in-Some.ensures.0 in
     let file = subst (λ (fields : List Field). HasFields (holds (file_name c.args.word.now)) fields) (sym c.of.ensures)
     (subst (λ (name : List ℕ). HasFields (holds (file_name name)) c.in-Ok.fields.items) named c.in-Ok.ensures.fields) in
     for_err c.add_table.result _ _ (λ why. table_told holds (shape_of c.args.declarations.now) c.args.word.now
@@ -26,4 +26,4 @@ returns-in-Err-clause-refused g c =
     fields_told holds (shape_of c.args.declarations.now) c.args.word.now before after c.in-Err.refusal
     c.file_names_are_texts.ensures c.in-Some.ensures.1 room
     (subst (λ (name : List ℕ). FieldsRefusalIs holds name before after c.in-Err.refusal)
-    (c.as_slice.ensures.value ∙ c.in-Some.ensures.0) c.in-Err.ensures.refused)
+    (c.in-Some.ensures.0) c.in-Err.ensures.refused)

@@ -5,8 +5,8 @@ use Rattle.shape_files.proofs.tables.read_fields.Goals as goal
 
 pub returns-in-Ok-clause-refused : goal.returns-in-Ok-clause-refused
 returns-in-Ok-clause-refused g c =
-    let held = subst (λ (bytes : List ℕ). g.F.Files.holds c.args.files.now (file_name c.args.name.now) (Some bytes))
+    let held = subst (λ (bytes : List ℕ). g.F.Files.holds c.args.files.now (file_name c.args.name.now.items) (Some bytes))
     (sym c.as_slice.ensures.value) c.in-Ok.ensures.held in
-    for_err c.fields_in.result _ _ (λ why. no_fields (g.F.Files.holds c.args.files.now) c.args.name.now _
+    for_err c.fields_in.result _ _ (λ why. no_fields (g.F.Files.holds c.args.files.now) c.args.name.now.items _
     (g.F.Files.failed c.args.files.now) (g.F.Files.failed c.table_bytes.new.files) why held)
     c.fields_in.ensures.refused
