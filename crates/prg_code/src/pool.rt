@@ -1,6 +1,6 @@
 //! Constants by number.
 
-ghost use Rattle.std.specs.Prelude.{◌≡◌, ⊥, true, length, Some, Err, IfOk, OnErr, slice_get};
+ghost use Rattle.std.specs.Prelude.{◌≡◌, true, length, Some, Err, IfOk, OnErr, slice_get};
 ghost use Rattle.fixed_num.specs.Words.{magnitude_of};
 ghost use Rattle.prg_code.specs.Numbers.{Grows};
 ghost use Rattle.prg_code.specs.declared.fault.CompileError.TheVariants as error;
