@@ -22,3 +22,8 @@ pub mod Areas
 pub mod Codes
 pub mod Values
 pub mod Verifier
+pub mod Sheets
+pub mod Letters
+pub mod FolderDeclarations
+pub mod Advice
+pub mod Reads

@@ -1,0 +1,7 @@
+-- What the contracts of `folder_declarations` say.
+pub use Rattle.folder_shapes.specs.Keys
+pub use Rattle.folder_shapes.specs.Names
+pub use Rattle.folder_shapes.specs.Owners
+pub use Rattle.folder_shapes.specs.Reading
+pub use Rattle.folder_shapes.specs.Told
+pub use Rattle.folder_shapes.specs.States

@@ -1,0 +1,3 @@
+-- What the contracts of `letters` say.
+pub use Rattle.code_pages.specs.Pages
+pub use Rattle.code_pages.specs.Letters

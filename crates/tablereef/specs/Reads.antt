@@ -1,0 +1,2 @@
+-- What the contracts of `reads` say.
+pub use Rattle.waiting_fields.specs.Reads
