@@ -1,6 +1,6 @@
 -- Lines that are judged one after the other.
-use Rattle.std.proofs.Common.{◌≡◌, ◌≤◌, ◌+◌, ℕ, List, [], ◌∷◌, ◌++◌, Some, length, length-append, append_assoc, append-nil}
-use Rattle.std.proofs.Common.{refl, sym, ap, ◌∙◌, subst, arith}
+use Rattle.std.proofs.Common.{◌≡◌, ◌≤◌, ◌+◌, ℕ, List, [], ◌∷◌, ◌++◌, Some, length, length-append, append_assoc}
+use Rattle.std.proofs.Common.{append-nil, refl, sym, ap, ◌∙◌, subst, arith}
 use Rattle.file_access.specs.Holding.{Holds, SameFiles}
 use Rattle.shape.specs.declared.whole.Shape.{Shape}
 use Rattle.shape_files.specs.declared.refusal.DeclFault.{DeclFault}

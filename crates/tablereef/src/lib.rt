@@ -12,7 +12,8 @@
 //! | `declarations`, `stored`, `compiling`, `listings`, `runs` | from files to files: what the program's commands do |
 //! | `sheets`, `letters` | tables as comma-separated values; old texts in UTF-8 |
 //! | `folder_declarations`, `advice` | what a folder's tables and indexes declare; what to do about a refusal |
-//! | `conversations`, `journals`, `reads` | runs that ask an operator for each line, lines kept before a run sees them, and what a READ asks for |
+//! | `conversations`, `reads` | runs that ask an operator for each line, and what a READ asks for |
+//! | `journals` | lines kept before a run sees them |
 //!
 //! A program that compiles, verifies and runs needs `files`, `compiling`, `listings` and `runs` alone; the crate
 //! `embedded` is one. What a run of accepted code promises is the contract of `machine_for_accepted::run`.

@@ -1,4 +1,4 @@
-use Rattle.std.proofs.Common.{◌<◌, ◌∙◌, ℕ, List, length, sym, subst, rules}
+use Rattle.std.proofs.Common.{◌<◌, ℕ, List, length, sym, subst, rules}
 use Rattle.dbf_file.specs.declared.field.Field.{Field}
 use Rattle.shape_files.specs.Refusals.{FieldsRefusalIs}
 use Rattle.shape_files.specs.Shapes.{HasFields, file_name, shape_of}
