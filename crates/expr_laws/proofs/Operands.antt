@@ -8,6 +8,12 @@ use Rattle.xvalue.specs.declared.kind.Kind.{Kind}
 use Rattle.xvalue.specs.declared.kind.Kind.TheVariants as kind
 use Rattle.xvalue.specs.declared.fun.Fun.{Fun}
 use Rattle.xvalue.specs.declared.fun.Fun.TheVariants as fun
+use Rattle.xvalue.specs.declared.fun.Arithmetic.TheVariants as arithmetic
+use Rattle.xvalue.specs.declared.fun.NumberOrder.TheVariants as number_order
+use Rattle.xvalue.specs.declared.fun.NumberFun.TheVariants as number_fun
+use Rattle.xvalue.specs.declared.fun.TextFun.TheVariants as text_fun
+use Rattle.xvalue.specs.declared.fun.DateFun.TheVariants as date_fun
+use Rattle.xvalue.specs.declared.fun.TruthFun.TheVariants as truth_fun
 use Rattle.xvalue.specs.Kinds.{same_kind}
 use Rattle.xvalue.specs.Signature.{takes_of, gives_of}
 use Rattle.xvalue.proofs.KindLemmas.{kinds_same}
@@ -49,25 +55,34 @@ nowhere {one} {other} o e = absurd (none-some o e)
 equality_sound : (form : Fun → OperatorMeaning) (k : Kind) (o : OperatorMeaning)
     → ((f : Fun) → gives_of f ≡ kind.Logical → k ∷ k ∷ [] ≡ takes_of f → Sound k k (form f))
     → operation_if_some form (equality k) ≡ Some o → Sound k k o
-equality_sound form kind.Number o d e = these (form fun.NumberEq) o (d fun.NumberEq refl refl) e
-equality_sound form kind.Text o d e = these (form fun.TextEq) o (d fun.TextEq refl refl) e
-equality_sound form kind.Date o d e = these (form fun.DateEq) o (d fun.DateEq refl refl) e
+equality_sound form kind.Number o d e =
+    these (form (fun.Compares number_order.NumberEq)) o (d (fun.Compares number_order.NumberEq) refl refl) e
+equality_sound form kind.Text o d e =
+    these (form (fun.ToTruth truth_fun.TextEq)) o (d (fun.ToTruth truth_fun.TextEq) refl refl) e
+equality_sound form kind.Date o d e =
+    these (form (fun.ToTruth truth_fun.DateEq)) o (d (fun.ToTruth truth_fun.DateEq) refl refl) e
 equality_sound form kind.Logical o d e = nowhere o e
 
 less_sound : (form : Fun → OperatorMeaning) (k : Kind) (o : OperatorMeaning)
     → ((f : Fun) → gives_of f ≡ kind.Logical → k ∷ k ∷ [] ≡ takes_of f → Sound k k (form f))
     → operation_if_some form (less k) ≡ Some o → Sound k k o
-less_sound form kind.Number o d e = these (form fun.NumberLess) o (d fun.NumberLess refl refl) e
-less_sound form kind.Text o d e = these (form fun.TextLess) o (d fun.TextLess refl refl) e
-less_sound form kind.Date o d e = these (form fun.DateLess) o (d fun.DateLess refl refl) e
+less_sound form kind.Number o d e =
+    these (form (fun.Compares number_order.NumberLess)) o (d (fun.Compares number_order.NumberLess) refl refl) e
+less_sound form kind.Text o d e =
+    these (form (fun.ToTruth truth_fun.TextLess)) o (d (fun.ToTruth truth_fun.TextLess) refl refl) e
+less_sound form kind.Date o d e =
+    these (form (fun.ToTruth truth_fun.DateLess)) o (d (fun.ToTruth truth_fun.DateLess) refl refl) e
 less_sound form kind.Logical o d e = nowhere o e
 
 greater_sound : (form : Fun → OperatorMeaning) (k : Kind) (o : OperatorMeaning)
     → ((f : Fun) → gives_of f ≡ kind.Logical → k ∷ k ∷ [] ≡ takes_of f → Sound k k (form f))
     → operation_if_some form (greater k) ≡ Some o → Sound k k o
-greater_sound form kind.Number o d e = these (form fun.NumberGreater) o (d fun.NumberGreater refl refl) e
-greater_sound form kind.Text o d e = these (form fun.TextGreater) o (d fun.TextGreater refl refl) e
-greater_sound form kind.Date o d e = these (form fun.DateGreater) o (d fun.DateGreater refl refl) e
+greater_sound form kind.Number o d e =
+    these (form (fun.Compares number_order.NumberGreater)) o (d (fun.Compares number_order.NumberGreater) refl refl) e
+greater_sound form kind.Text o d e =
+    these (form (fun.ToTruth truth_fun.TextGreater)) o (d (fun.ToTruth truth_fun.TextGreater) refl refl) e
+greater_sound form kind.Date o d e =
+    these (form (fun.ToTruth truth_fun.DateGreater)) o (d (fun.ToTruth truth_fun.DateGreater) refl refl) e
 greater_sound form kind.Logical o d e = nowhere o e
 
 of_truth : (k : Kind) (f : Fun) → gives_of f ≡ kind.Logical → k ∷ k ∷ [] ≡ takes_of f → Sound k k (denied f)
@@ -92,15 +107,19 @@ both_sound f k one other o takes e =
     (ap (λ (l : Kind). l ∷ []) (kinds_same other k q.1)) ∙ takes)) p.is
 
 added_sound : (one other : Kind) (o : OperatorMeaning) → added one other ≡ Some o → Sound one other o
-added_sound kind.Number kind.Number o e = these (plain fun.Add) o (plain_sound fun.Add refl) e
+added_sound kind.Number kind.Number o e =
+    these (plain (fun.OfTwo arithmetic.Add)) o (plain_sound (fun.OfTwo arithmetic.Add) refl) e
 added_sound kind.Number kind.Text o e = nowhere o e
-added_sound kind.Number kind.Date o e = these (turned fun.DateAdd) o (turned_sound fun.DateAdd refl) e
+added_sound kind.Number kind.Date o e =
+    these (turned (fun.ToDate date_fun.DateAdd)) o (turned_sound (fun.ToDate date_fun.DateAdd) refl) e
 added_sound kind.Number kind.Logical o e = nowhere o e
 added_sound kind.Text kind.Number o e = nowhere o e
-added_sound kind.Text kind.Text o e = these (plain fun.Join) o (plain_sound fun.Join refl) e
+added_sound kind.Text kind.Text o e =
+    these (plain (fun.ToText text_fun.Join)) o (plain_sound (fun.ToText text_fun.Join) refl) e
 added_sound kind.Text kind.Date o e = nowhere o e
 added_sound kind.Text kind.Logical o e = nowhere o e
-added_sound kind.Date kind.Number o e = these (plain fun.DateAdd) o (plain_sound fun.DateAdd refl) e
+added_sound kind.Date kind.Number o e =
+    these (plain (fun.ToDate date_fun.DateAdd)) o (plain_sound (fun.ToDate date_fun.DateAdd) refl) e
 added_sound kind.Date kind.Text o e = nowhere o e
 added_sound kind.Date kind.Date o e = nowhere o e
 added_sound kind.Date kind.Logical o e = nowhere o e
@@ -110,17 +129,21 @@ added_sound kind.Logical kind.Date o e = nowhere o e
 added_sound kind.Logical kind.Logical o e = nowhere o e
 
 subtracted_sound : (one other : Kind) (o : OperatorMeaning) → subtracted one other ≡ Some o → Sound one other o
-subtracted_sound kind.Number kind.Number o e = these (plain fun.Sub) o (plain_sound fun.Sub refl) e
+subtracted_sound kind.Number kind.Number o e =
+    these (plain (fun.OfTwo arithmetic.Sub)) o (plain_sound (fun.OfTwo arithmetic.Sub) refl) e
 subtracted_sound kind.Number kind.Text o e = nowhere o e
 subtracted_sound kind.Number kind.Date o e = nowhere o e
 subtracted_sound kind.Number kind.Logical o e = nowhere o e
 subtracted_sound kind.Text kind.Number o e = nowhere o e
-subtracted_sound kind.Text kind.Text o e = these (plain fun.JoinMoved) o (plain_sound fun.JoinMoved refl) e
+subtracted_sound kind.Text kind.Text o e =
+    these (plain (fun.ToText text_fun.JoinMoved)) o (plain_sound (fun.ToText text_fun.JoinMoved) refl) e
 subtracted_sound kind.Text kind.Date o e = nowhere o e
 subtracted_sound kind.Text kind.Logical o e = nowhere o e
-subtracted_sound kind.Date kind.Number o e = these (plain fun.DateSub) o (plain_sound fun.DateSub refl) e
+subtracted_sound kind.Date kind.Number o e =
+    these (plain (fun.ToDate date_fun.DateSub)) o (plain_sound (fun.ToDate date_fun.DateSub) refl) e
 subtracted_sound kind.Date kind.Text o e = nowhere o e
-subtracted_sound kind.Date kind.Date o e = these (plain fun.DateDiff) o (plain_sound fun.DateDiff refl) e
+subtracted_sound kind.Date kind.Date o e =
+    these (plain (fun.ToNumber number_fun.DateDiff)) o (plain_sound (fun.ToNumber number_fun.DateDiff) refl) e
 subtracted_sound kind.Date kind.Logical o e = nowhere o e
 subtracted_sound kind.Logical kind.Number o e = nowhere o e
 subtracted_sound kind.Logical kind.Text o e = nowhere o e
@@ -129,11 +152,11 @@ subtracted_sound kind.Logical kind.Logical o e = nowhere o e
 
 pub operated_sound : (op : BinaryOperator) (one other : Kind) (o : OperatorMeaning) → operated op one other ≡ Some o
     → Sound one other o
-operated_sound Or one other o e = both_sound fun.Or kind.Logical one other o refl e
-operated_sound And one other o e = both_sound fun.And kind.Logical one other o refl e
-operated_sound Contains one other o e = both_sound fun.In kind.Text one other o refl e
-operated_sound Times one other o e = both_sound fun.Mul kind.Number one other o refl e
-operated_sound Over one other o e = both_sound fun.Div kind.Number one other o refl e
+operated_sound Or one other o e = both_sound (fun.ToTruth truth_fun.Or) kind.Logical one other o refl e
+operated_sound And one other o e = both_sound (fun.ToTruth truth_fun.And) kind.Logical one other o refl e
+operated_sound Contains one other o e = both_sound (fun.ToTruth truth_fun.In) kind.Text one other o refl e
+operated_sound Times one other o e = both_sound (fun.OfTwo arithmetic.Mul) kind.Number one other o refl e
+operated_sound Over one other o e = both_sound (fun.OfTwo arithmetic.Div) kind.Number one other o refl e
 operated_sound Plus one other o e = added_sound one other o e
 operated_sound Minus one other o e = subtracted_sound one other o e
 operated_sound Equal one other o e = alike_sound one other (operation_if_some plain (equality one)) o

@@ -8,6 +8,8 @@ use Rattle.xvalue.specs.declared.kind.Kind.{Kind}
 use Rattle.xvalue.specs.declared.kind.Kind.TheVariants as kind
 use Rattle.xvalue.specs.declared.fun.Fun.{Fun}
 use Rattle.xvalue.specs.declared.fun.Fun.TheVariants as fun
+use Rattle.xvalue.specs.declared.fun.NumberFun.TheVariants as number_fun
+use Rattle.xvalue.specs.declared.fun.TruthFun.TheVariants as truth_fun
 use Rattle.xvalue.specs.declared.value.Value.{Value}
 use Rattle.xvalue.specs.declared.value.Value.TheVariants as value
 use Rattle.xvalue.specs.Given.{by_kind}
@@ -34,7 +36,7 @@ use Rattle.prg_values.specs.declared.pieces.Piece.TheVariants.{Constant, Does}
 use Rattle.prg_values.specs.Written.{IsPiece, calls, meaning, choice, question_kind, of_none, called_kind}
 use Rattle.prg_values.specs.Written.{prefixed_kind, operated_kind, kind_in, kinds_in, reading_pieces, constants, chosen}
 use Rattle.prg_values.specs.Written.{call_pieces, prefix_pieces, denial, operation_pieces, operator_pieces}
-use Rattle.prg_values.specs.Written.{turned as in_turn, pieces_in, all_pieces, defaults}
+use Rattle.prg_values.specs.Written.{swapped_if, pieces_in, all_pieces, defaults}
 use Rattle.run_steps.proofs.Results.{ResultLaw}
 use Rattle.expr_laws.specs.Meaning.{Sight, applied_to, operands, value_in, values_in}
 use Rattle.expr_laws.proofs.Defaults.{alone, all_kinds}
@@ -141,21 +143,21 @@ module _ (s : Scoped) (v : Sight) (cs : List Value) (fit : Instr → Type 0) (fi
   prefix_passes : (p : Prefix) (k0 k : Kind) (c : Value) (st : List Value) → kind_of c ≡ k0
       → prefixed_kind p k0 ≡ Some k → Passing (prefix_pieces (prefix_fun p)) (c ∷ st)
   prefix_passes Not k0 k c st same e =
-      does_pass (Values (value_instr.Function fun.Not)) (c ∷ st)
-      (m.function_passes fun.Not (c ∷ []) st
+      does_pass (Values (value_instr.Function (fun.ToTruth truth_fun.Not))) (c ∷ st)
+      (m.function_passes (fun.ToTruth truth_fun.Not) (c ∷ []) st
       (ap (λ (l : Kind). l ∷ []) (same ∙ kinds_same k0 kind.Logical
       (passed (same_kind k0 kind.Logical) (Some kind.Logical) k e).holds)))
   prefix_passes Negative k0 k c st same e =
-      does_pass (Values (value_instr.Function fun.Neg)) (c ∷ st)
-      (m.function_passes fun.Neg (c ∷ []) st
+      does_pass (Values (value_instr.Function (fun.ToNumber number_fun.Neg))) (c ∷ st)
+      (m.function_passes (fun.ToNumber number_fun.Neg) (c ∷ []) st
       (ap (λ (l : Kind). l ∷ []) (same ∙ kinds_same k0 kind.Number
       (passed (same_kind k0 kind.Number) (Some kind.Number) k e).holds)))
   prefix_passes Positive k0 k c st same e = none_pass (c ∷ st)
 
   denial_passes : (negated : Bool) (c : Value) (st : List Value) → (negated ≡ true → kind_of c ≡ kind.Logical)
       → Passing (denial negated) (c ∷ st)
-  denial_passes true c st h = does_pass (Values (value_instr.Function fun.Not)) (c ∷ st)
-      (m.function_passes fun.Not (c ∷ []) st (ap (λ (l : Kind). l ∷ []) (h refl)))
+  denial_passes true c st h = does_pass (Values (value_instr.Function (fun.ToTruth truth_fun.Not))) (c ∷ st)
+      (m.function_passes (fun.ToTruth truth_fun.Not) (c ∷ []) st (ap (λ (l : Kind). l ∷ []) (h refl)))
   denial_passes false c st h = none_pass (c ∷ st)
 
   operation_passes : (o : OperatorMeaning) (vs : List Value) (st : List Value) → map kind_of vs ≡ takes_of o.fun
@@ -170,7 +172,7 @@ module _ (s : Scoped) (v : Sight) (cs : List Value) (fit : Instr → Type 0) (fi
 
   -- the operands in the order that the function takes them
   turned_pass : (swapped : Bool) (ps qs : List Piece) (st : List Value) → ((c : List Value) → Passing ps c)
-      → ((c : List Value) → Passing qs c) → Passing (in_turn swapped ps qs) st
+      → ((c : List Value) → Passing qs c) → Passing (swapped_if swapped ps qs) st
   turned_pass true ps qs st one other = then_pass qs ps st (other st) (λ c goes. one c)
   turned_pass false ps qs st one other = then_pass ps qs st (one st) (λ c goes. other c)
 
@@ -219,7 +221,7 @@ module _ (s : Scoped) (v : Sight) (cs : List Value) (fit : Instr → Type 0) (fi
         ∙ length-map vs kind_of in
         subst (λ (z : Option OperatorMeaning). Passing (operator_pieces z (pieces_in s ta) (pieces_in s tb)) st)
         (sym there)
-        (then_pass (in_turn y.a.swapped (pieces_in s ta) (pieces_in s tb)) (operation_pieces y.a) st
+        (then_pass (swapped_if y.a.swapped (pieces_in s ta) (pieces_in s tb)) (operation_pieces y.a) st
         (turned_pass y.a.swapped (pieces_in s ta) (pieces_in s tb) st (λ c. tree_passes ta w.a c w.there)
         (λ c. tree_passes tb x.a c x.there))
         (λ c goes. subst (λ (d : List Value). Passing (operation_pieces y.a) d)

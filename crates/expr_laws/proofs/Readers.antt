@@ -26,7 +26,7 @@ use Rattle.prg_values.specs.declared.pieces.Piece.{Piece}
 use Rattle.prg_values.specs.declared.pieces.Piece.TheVariants.{Constant, Does}
 use Rattle.prg_values.specs.Written.{IsPiece, meaning, defaults, kind_in, kinds_in, reading_pieces, constants, chosen}
 use Rattle.prg_values.specs.Written.{call_pieces, prefix_pieces, denial, operation_pieces, operation_in}
-use Rattle.prg_values.specs.Written.{operator_pieces, turned as in_turn, pieces_in, all_pieces}
+use Rattle.prg_values.specs.Written.{operator_pieces, swapped_if, pieces_in, all_pieces}
 use Rattle.expr_laws.proofs.Names.{is_load}
 use Rattle.expr_laws.proofs.Options.{found}
 use Rattle.expr_laws.proofs.Steps.{only_reads, AllRead}
@@ -118,14 +118,14 @@ denial_reads : (negated : Bool) → Reads (denial negated)
 denial_reads true = (refl, tt)
 denial_reads false = tt
 
-turned_read : (swapped : Bool) (ps qs : List Piece) → Reads ps → Reads qs → Reads (in_turn swapped ps qs)
+turned_read : (swapped : Bool) (ps qs : List Piece) → Reads ps → Reads qs → Reads (swapped_if swapped ps qs)
 turned_read true ps qs h g = both_read qs ps g h
 turned_read false ps qs h g = both_read ps qs h g
 
 operator_reads : (x : Option OperatorMeaning) (ps qs : List Piece) → Reads ps → Reads qs
     → Reads (operator_pieces x ps qs)
 operator_reads None ps qs h g = tt
-operator_reads (Some o) ps qs h g = both_read (in_turn o.swapped ps qs) (operation_pieces o)
+operator_reads (Some o) ps qs h g = both_read (swapped_if o.swapped ps qs) (operation_pieces o)
     (turned_read o.swapped ps qs h g) (refl, denial_reads o.negated)
 
 mutual

@@ -6,6 +6,8 @@ use Rattle.xvalue.specs.declared.kind.Kind.{Kind}
 use Rattle.xvalue.specs.declared.kind.Kind.TheVariants as kind
 use Rattle.xvalue.specs.declared.fun.Fun.{Fun}
 use Rattle.xvalue.specs.declared.fun.Fun.TheVariants as fun
+use Rattle.xvalue.specs.declared.fun.NumberFun.TheVariants as number_fun
+use Rattle.xvalue.specs.declared.fun.TruthFun.TheVariants as truth_fun
 use Rattle.xvalue.specs.declared.settings.Settings.{Settings}
 use Rattle.xvalue.specs.declared.value.Value.{Value}
 use Rattle.xvalue.specs.Given.{by_kind}
@@ -33,7 +35,7 @@ use Rattle.prg_values.specs.declared.pieces.Piece.{Piece}
 use Rattle.prg_values.specs.Written.{meaning, choice, reading_kind, completed, function_kind, question_kind, of_none}
 use Rattle.prg_values.specs.Written.{called_kind, prefixed_kind, operated_kind, kind_in, kinds_in, reading_pieces}
 use Rattle.prg_values.specs.Written.{constants, chosen, call_pieces, prefix_pieces, operation_pieces, operation_in}
-use Rattle.prg_values.specs.Written.{operator_pieces, turned as in_turn, pieces_in, all_pieces, defaults}
+use Rattle.prg_values.specs.Written.{operator_pieces, swapped_if, pieces_in, all_pieces, defaults}
 use Rattle.run_steps.proofs.Results.{ResultLaw}
 use Rattle.fit_laws.proofs.Covered.{joined}
 use Rattle.expr_laws.specs.Meaning.{Sight, nothing, applied_to, denied_if, operands, operation_value, operated_value}
@@ -48,12 +50,13 @@ operation_kind : ResultLaw → (settings : Settings) (o : OperatorMeaning) (nega
     → o.negated ≡ negated → (o.negated ≡ true → gives_of o.fun ≡ kind.Logical)
     → kind_of (denied_if negated settings (applied_to settings o.fun (operands o.swapped a b))) ≡ gives_of o.fun
 operation_kind law settings o true a b e d =
-    law fun.Not settings (by_kind (applied_to settings o.fun (operands o.swapped a b) ∷ [])) ∙ sym (d e)
+    law (fun.ToTruth truth_fun.Not) settings (by_kind (applied_to settings o.fun (operands o.swapped a b) ∷ []))
+    ∙ sym (d e)
 operation_kind law settings o false a b e d = law o.fun settings (by_kind (operands o.swapped a b))
 
 -- ---- the pieces between which an operator's are
 
-pub operands_fit : (fit : Instr → Type 0) (swapped : Bool) (as' bs : List Piece) → Fit fit (in_turn swapped as' bs)
+pub operands_fit : (fit : Instr → Type 0) (swapped : Bool) (as' bs : List Piece) → Fit fit (swapped_if swapped as' bs)
     → Fit fit as' × Fit fit bs
 operands_fit fit true as' bs h =
     let p = fit_parts fit bs as' h in
@@ -108,9 +111,9 @@ module _ (s : Scoped) (v : Sight) (cs : List Value) (fit : Instr → Type 0) (ru
 
   prefixed_told : (p : Prefix) (k0 k : Kind) (c : Value) → kind_of c ≡ k0 → prefixed_kind p k0 ≡ Some k
       → kind_of (prefixed_value v.settings (prefix_fun p) c) ≡ k
-  prefixed_told Not k0 k c same e = law fun.Not v.settings (by_kind (c ∷ []))
+  prefixed_told Not k0 k c same e = law (fun.ToTruth truth_fun.Not) v.settings (by_kind (c ∷ []))
       ∙ same_Some kind.Logical k (passed (same_kind k0 kind.Logical) (Some kind.Logical) k e).is
-  prefixed_told Negative k0 k c same e = law fun.Neg v.settings (by_kind (c ∷ []))
+  prefixed_told Negative k0 k c same e = law (fun.ToNumber number_fun.Neg) v.settings (by_kind (c ∷ []))
       ∙ same_Some kind.Number k (passed (same_kind k0 kind.Number) (Some kind.Number) k e).is
   prefixed_told Positive k0 k c same e =
       let p = passed (same_kind k0 kind.Number) (Some kind.Number) k e in
@@ -151,11 +154,11 @@ module _ (s : Scoped) (v : Sight) (cs : List Value) (fit : Instr → Type 0) (ru
         let x = found (kind_in s b) (operated_kind o w.a) k w.made in
         let y = found (operated o w.a x.a) (λ operation. Some (gives_of operation.fun)) k x.made in
         let there = operands_there o (kind_in s a) (kind_in s b) w.a x.a y.a w.there x.there y.there in
-        let g : Fit fit (in_turn y.a.swapped (pieces_in s a) (pieces_in s b) ++ operation_pieces y.a) =
+        let g : Fit fit (swapped_if y.a.swapped (pieces_in s a) (pieces_in s b) ++ operation_pieces y.a) =
         subst (λ (z : Option OperatorMeaning). Fit fit (operator_pieces z (pieces_in s a) (pieces_in s b))) there
         h in
         let p = operands_fit fit y.a.swapped (pieces_in s a) (pieces_in s b)
-        (fit_parts fit (in_turn y.a.swapped (pieces_in s a) (pieces_in s b)) (operation_pieces y.a) g).0 in
+        (fit_parts fit (swapped_if y.a.swapped (pieces_in s a) (pieces_in s b)) (operation_pieces y.a) g).0 in
         operated_told o w.a x.a k (value_in v a) (value_in v b) (kind_told a w.a w.there p.0)
         (kind_told b x.a x.there p.1) x.made
 

@@ -7,6 +7,8 @@ use Rattle.xvalue.specs.declared.kind.Kind.{Kind}
 use Rattle.xvalue.specs.declared.kind.Kind.TheVariants as kind
 use Rattle.xvalue.specs.declared.fun.Fun.{Fun}
 use Rattle.xvalue.specs.declared.fun.Fun.TheVariants as fun
+use Rattle.xvalue.specs.declared.fun.NumberFun.TheVariants as number_fun
+use Rattle.xvalue.specs.declared.fun.TruthFun.TheVariants as truth_fun
 use Rattle.xvalue.specs.declared.value.Value.{Value}
 use Rattle.xvalue.specs.declared.value.Value.TheVariants as value
 use Rattle.xvalue.specs.Functions.{applied}
@@ -34,7 +36,7 @@ use Rattle.prg_values.specs.declared.pieces.Piece.TheVariants.{Constant, Does}
 use Rattle.prg_values.specs.Written.{calls, meaning, choice, reading_kind, function_kind, question_kind, of_none}
 use Rattle.prg_values.specs.Written.{called_kind, prefixed_kind, operated_kind, kind_in, kinds_in, reading_pieces}
 use Rattle.prg_values.specs.Written.{constants, chosen, call_pieces, prefix_pieces, denial, operation_pieces}
-use Rattle.prg_values.specs.Written.{operator_pieces, turned as in_turn, pieces_in, all_pieces, defaults}
+use Rattle.prg_values.specs.Written.{operator_pieces, swapped_if, pieces_in, all_pieces, defaults}
 use Rattle.run_steps.proofs.Results.{ResultLaw}
 use Rattle.expr_laws.specs.Meaning.{Sight, nothing, applied_to, denied_if, operands, operation_value, prefixed_value}
 use Rattle.expr_laws.specs.Meaning.{chosen_value, called_value, value_in, values_in}
@@ -138,13 +140,13 @@ module _ (s : Scoped) (v : Sight) (cs : List Value) (fit : Instr → Type 0) (ru
 
   prefix_leads : (p : Prefix) (c : Value) (a b : List Value) → Goes cs run (prefix_pieces (prefix_fun p)) (c ∷ a) b
       → b ≡ prefixed_value v.settings (prefix_fun p) c ∷ a
-  prefix_leads Not c a b goes = function_leads fun.Not (c ∷ []) a b refl goes
-  prefix_leads Negative c a b goes = function_leads fun.Neg (c ∷ []) a b refl goes
+  prefix_leads Not c a b goes = function_leads (fun.ToTruth truth_fun.Not) (c ∷ []) a b refl goes
+  prefix_leads Negative c a b goes = function_leads (fun.ToNumber number_fun.Neg) (c ∷ []) a b refl goes
   prefix_leads Positive c a b goes = goes_nowhere cs run (c ∷ a) b goes
 
   denial_leads : (negated : Bool) (c : Value) (a b : List Value) → Goes cs run (denial negated) (c ∷ a) b
       → b ≡ denied_if negated v.settings c ∷ a
-  denial_leads true c a b goes = function_leads fun.Not (c ∷ []) a b refl goes
+  denial_leads true c a b goes = function_leads (fun.ToTruth truth_fun.Not) (c ∷ []) a b refl goes
   denial_leads false c a b goes = goes_nowhere cs run (c ∷ a) b goes
 
   operation_leads : (o : OperatorMeaning) (x y : Value) (a b : List Value) → length (takes_of o.fun) ≡ 2
@@ -162,7 +164,7 @@ module _ (s : Scoped) (v : Sight) (cs : List Value) (fit : Instr → Type 0) (ru
   -- the operands in the order that the function takes them
   pub operands_lead : (swapped : Bool) (as' bs : List Piece) (x y : Value) (a b : List Value)
       → ((c d : List Value) → Goes cs run as' c d → d ≡ x ∷ c) → ((c d : List Value) → Goes cs run bs c d → d ≡ y ∷ c)
-      → Goes cs run (in_turn swapped as' bs) a b → b ≡ onto (operands swapped x y) a
+      → Goes cs run (swapped_if swapped as' bs) a b → b ≡ onto (operands swapped x y) a
   operands_lead true as' bs x y a b one other goes =
       let w = parted cs run bs as' a b goes in
       one w.middle b w.last ∙ ap (λ (st : List Value). x ∷ st) (other a w.middle w.first)
@@ -221,15 +223,15 @@ module _ (s : Scoped) (v : Sight) (cs : List Value) (fit : Instr → Type 0) (ru
         let x = found (kind_in s tb) (operated_kind o w.a) k w.made in
         let y = found (operated o w.a x.a) (λ operation. Some (gives_of operation.fun)) k x.made in
         let there = operands_there o (kind_in s ta) (kind_in s tb) w.a x.a y.a w.there x.there y.there in
-        let h' : Fit fit (in_turn y.a.swapped (pieces_in s ta) (pieces_in s tb) ++ operation_pieces y.a) =
+        let h' : Fit fit (swapped_if y.a.swapped (pieces_in s ta) (pieces_in s tb) ++ operation_pieces y.a) =
         subst (λ (z : Option OperatorMeaning). Fit fit (operator_pieces z (pieces_in s ta) (pieces_in s tb))) there
         h in
         let p = operands_fit fit y.a.swapped (pieces_in s ta) (pieces_in s tb)
-        (fit_parts fit (in_turn y.a.swapped (pieces_in s ta) (pieces_in s tb)) (operation_pieces y.a) h').0 in
-        let goes' : Goes cs run (in_turn y.a.swapped (pieces_in s ta) (pieces_in s tb) ++ operation_pieces y.a) a b =
+        (fit_parts fit (swapped_if y.a.swapped (pieces_in s ta) (pieces_in s tb)) (operation_pieces y.a) h').0 in
+        let goes' : Goes cs run (swapped_if y.a.swapped (pieces_in s ta) (pieces_in s tb) ++ operation_pieces y.a) a b =
         subst (λ (z : Option OperatorMeaning). Goes cs run
         (operator_pieces z (pieces_in s ta) (pieces_in s tb)) a b) there goes in
-        let g = parted cs run (in_turn y.a.swapped (pieces_in s ta) (pieces_in s tb))
+        let g = parted cs run (swapped_if y.a.swapped (pieces_in s ta) (pieces_in s tb))
         (operation_pieces y.a) a b goes' in
         let va = value_in v ta in
         let vb = value_in v tb in

@@ -3,6 +3,7 @@ use Rattle.std.specs.Prelude.{ℕ, Bool, true, false, List, [], ◌∷◌, ◌++
 use Rattle.calendar.specs.declared.day.DayParts.{DayParts}
 use Rattle.xvalue.specs.declared.fun.Fun.{Fun}
 use Rattle.xvalue.specs.declared.fun.Fun.TheVariants as fun
+use Rattle.xvalue.specs.declared.fun.TruthFun.TheVariants as truth_fun
 use Rattle.xvalue.specs.declared.settings.Settings.{Settings}
 use Rattle.xvalue.specs.declared.value.Value.{Value}
 use Rattle.xvalue.specs.declared.value.Value.TheVariants as value
@@ -41,7 +42,7 @@ applied_to settings f values = applied f settings (by_kind values)
 -- ---- operators
 
 abbrev pub denied_if : Bool → Settings → Value → Value
-denied_if true settings v = applied_to settings fun.Not (v ∷ [])
+denied_if true settings v = applied_to settings (fun.ToTruth truth_fun.Not) (v ∷ [])
 denied_if false settings v = v
 
 abbrev pub operands : Bool → Value → Value → List Value

@@ -11,7 +11,7 @@ use prg_code::{CompileError, Get, Output, Work};
 use prg_expr::Expr;
 use prg_values::Reading;
 use shape::copy_of_name;
-use xvalue::{Fun, Kind};
+use xvalue::{Fun, Kind, TextFun};
 
 /// Shows the values at the cursor, a blank between two.
 pub fn show(
@@ -233,7 +233,7 @@ fn store_key(out: &mut Output, work: &mut Work, name: &Name) -> Result<(), Compi
     ensures { Grown out.old work.old out.new work.new }
 {
     put_one(out, work)?;
-    put_value(work, ValueInstr::Function(Fun::Left))?;
+    put_value(work, ValueInstr::Function(Fun::ToText(TextFun::Left)))?;
     put_store(out, work, name, Kind::Text)?;
     Ok(())
 }

@@ -15,7 +15,7 @@ use prg_expr::Expr;
 use prg_parser::Command;
 use prg_writer::{Source, Writer, WrittenMark};
 use std::alloc::AllocError;
-use xvalue::Fun;
+use xvalue::{Fun, TruthFun};
 
 /// The most rounds of a loop behind the first one. In each round but the last, something is lost that was known of a
 /// slot or a work area.
@@ -200,9 +200,7 @@ fn put_scan_test(w: &mut Writer) -> Result<(), CompileError>
     w.work
         .block
         .put(Instr::Records(RecordInstr::Ask(Question::Eof)))?;
-    w.work
-        .block
-        .put(Instr::Values(ValueInstr::Function(Fun::Not)))
+    w.work.block.put(Instr::Values(ValueInstr::Function(Fun::ToTruth(TruthFun::Not))))
 }
 
 /// Ends a round. Where less is known at the loop's head by its ways back than in this round, it begins another one.

@@ -8,6 +8,7 @@ use Rattle.arrayvec.specs.ArrayVec.{ArrayVec}
 use Rattle.xvalue.specs.declared.kind.Kind.{Kind}
 use Rattle.xvalue.specs.declared.kind.Kind.TheVariants as kind
 use Rattle.xvalue.specs.declared.fun.Fun.TheVariants as fun
+use Rattle.xvalue.specs.declared.fun.TextFun.TheVariants as text_fun
 use Rattle.xvalue.specs.declared.value.Value.{Value}
 use Rattle.xvalue.specs.declared.value.Value.TheVariants as value
 use Rattle.shape.specs.declared.indexes.IndexShape.{IndexShape}
@@ -185,7 +186,7 @@ Asked f a (Some e) b = ExprLaid f a e kind.Text b
 abbrev pub KeyTaken : Laying → ℕ → Option Letters → ℕ → Type 0
 KeyTaken f a None b = InstrStands f.text a (Values (value_instr.Discard kind.Text)) b
 KeyTaken f a (Some name) b = (m : ℕ) × (n : ℕ) × ConstantStands f a (whole_as_value 1) m
-    × InstrStands f.text m (Values (value_instr.Function fun.Left)) n × Stored f n name kind.Text b
+    × InstrStands f.text m (Values (value_instr.Function (fun.ToText text_fun.Left))) n × Stored f n name kind.Text b
 
 abbrev pub Waited : Laying → ℕ → Option Tree → Option Letters → ℕ → Type 0
 Waited f a prompt name b = (m : ℕ) × (n : ℕ) × (o : ℕ) × (p : ℕ) × OnScreen f a screen.NewLine m × Asked f m prompt n

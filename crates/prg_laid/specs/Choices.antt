@@ -51,8 +51,8 @@ pub record Looked (f : Laying) (l : Option Leaps) (end : Option ℕ) (test : Tes
   pub followed : Followed f end way last p
 
 -- a way behind all commands, where no GET waits if the end is reached
-abbrev pub Closes : Way → List Letters → Way → Type 0
-Closes way gets w = (w ≡ way) × (way.on ≡ true → is_none_waiting gets ≡ true)
+abbrev pub IsWayOut : Way → List Letters → Way → Type 0
+IsWayOut way gets w = (w ≡ way) × (way.on ≡ true → is_none_waiting gets ≡ true)
 
 -- a loop whose condition stands at a place
 abbrev pub Repeats : Laying → ℕ → Test → Cmds → Way → Type 0

@@ -6,7 +6,8 @@ use Rattle.std.specs.Prelude.{slice_get, is_some, length}
 use Rattle.std.specs.List.{list_any}
 use Rattle.std.specs.Map.{values_of}
 use Rattle.xvalue.specs.declared.kind.Kind.TheVariants as kind
-use Rattle.xvalue.specs.declared.fun.Fun.TheVariants.{Not}
+use Rattle.xvalue.specs.declared.fun.Fun.TheVariants.{ToTruth}
+use Rattle.xvalue.specs.declared.fun.TruthFun.TheVariants.{Not}
 use Rattle.code_items.specs.declared.code.Code.{Code}
 use Rattle.code_items.specs.declared.code.Proc.{Proc}
 use Rattle.code_items.specs.declared.state.State.{State}
@@ -70,7 +71,7 @@ Chooses f a (Some e) next b = Tests f a e next b
 -- whether there is a row
 abbrev pub HasRow : Laying → ℕ → ℕ → ℕ → Type 0
 HasRow f a out b = (m : ℕ) × (n : ℕ) × InstrStands f.text a (Records (Ask Eof)) m
-    × InstrStands f.text m (Values (Function Not)) n
+    × InstrStands f.text m (Values (Function (ToTruth Not))) n
     × InstrStands f.text n (Flow (JumpFalse out)) b
 
 -- the next row of a SCAN and the way back, where they are reached

@@ -23,7 +23,7 @@ use prg_expr::Expr;
 use prg_line::Statement;
 use prg_parser::{Branch, Case, Command, Form};
 use std::alloc::AllocError;
-use xvalue::{Fun, Kind};
+use xvalue::{Fun, Kind, TruthFun};
 
 /// How many instructions lead from the end of a SCAN's commands back to its test.
 const WAY_BACK: usize = 3;
@@ -109,7 +109,11 @@ fn row_test_at(l: &Layout, place: usize) -> FoundLaid<Test>
     ensures { IfOk result (λ t. spec.HasRow (laying l.now) place t.out t.end) }
 {
     let asked = after(l, place, Instr::Records(RecordInstr::Ask(Question::Eof)))?;
-    let denied = after(l, asked, Instr::Values(ValueInstr::Function(Fun::Not)))?;
+    let denied = after(
+        l,
+        asked,
+        Instr::Values(ValueInstr::Function(Fun::ToTruth(TruthFun::Not))),
+    )?;
     fork_at(l, denied)
 }
 
@@ -270,7 +274,7 @@ fn wait_on<'a>(gets: &mut Vec<&'a Name>, command: &'a Command) -> Result<(), All
 
 /// The way behind all commands, where no GET may wait.
 fn closed(way: Way, gets: &[&Name]) -> FoundLaid<Way>
-    ensures { IfOk result (λ w. choices.Closes way (acts.names_of gets.now) w) }
+    ensures { IfOk result (λ w. choices.IsWayOut way (acts.names_of gets.now) w) }
 {
     if !way.on || none_wait(gets) {
         Ok(way)

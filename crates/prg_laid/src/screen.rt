@@ -12,7 +12,7 @@ use crate::layout::{Layout, after, given, given_as, named, puts, puts_one};
 use crate::variables::stored;
 use code_items::{Instr, Name, RecordInstr, ScreenInstr, ValueInstr};
 use prg_expr::Expr;
-use xvalue::{Fun, Kind, Value, text_from};
+use xvalue::{Fun, Kind, TextFun, Value, text_from};
 
 fn screen(l: &Layout, place: usize, instr: ScreenInstr) -> FoundLaid<usize>
     ensures { IfOk result (λ b. acts.OnScreen (laying l.now) place instr b) }
@@ -195,7 +195,11 @@ fn key_taken(l: &Layout, place: usize, variable: &Option<Name>) -> FoundLaid<usi
     match variable {
         Some(name) => {
             let one = puts_one(l, place)?;
-            let first = after(l, one, Instr::Values(ValueInstr::Function(Fun::Left)))?;
+            let first = after(
+                l,
+                one,
+                Instr::Values(ValueInstr::Function(Fun::ToText(TextFun::Left))),
+            )?;
             stored(l, first, name, Kind::Text)
         }
         None => after(l, place, Instr::Values(ValueInstr::Discard(Kind::Text))),

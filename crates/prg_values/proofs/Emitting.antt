@@ -11,7 +11,7 @@ use Rattle.prg_expr.specs.declared.tree.Expr.{Expr}
 use Rattle.prg_values.specs.declared.operators.OperatorMeaning.{OperatorMeaning}
 use Rattle.prg_values.specs.Readings.{Scoped}
 use Rattle.prg_values.specs.Written.{Piece, Constant, Does, IsPiece, pieces_in, all_pieces, operation_pieces}
-use Rattle.prg_values.specs.Written.{operator_pieces, turned}
+use Rattle.prg_values.specs.Written.{operator_pieces, swapped_if}
 
 -- a constant keeps its number
 pub still_there : (earlier more : List Value) (n : ℕ) (v : Value) → slice_get earlier n ≡ Some v
@@ -50,12 +50,12 @@ then ps qs old between new a b = b ∙ ap (λ (xs : List Piece). xs ++ qs) a ∙
 
 -- two operands and the function, in either order
 pub both_put : (o : Option OperatorMeaning) (op : OperatorMeaning) (swapped : Bool) (a b old between new : List Piece)
-    → o ≡ Some op → op.swapped ≡ swapped → between ≡ old ++ turned swapped a b → new ≡ between ++ operation_pieces op
+    → o ≡ Some op → op.swapped ≡ swapped → between ≡ old ++ swapped_if swapped a b → new ≡ between ++ operation_pieces op
     → new ≡ old ++ operator_pieces o a b
 both_put o op swapped a b old between new is order first last =
     subst (λ x. new ≡ old ++ operator_pieces x a b) (sym is)
-    (subst (λ y. new ≡ old ++ (turned y a b ++ operation_pieces op)) (sym order)
-    (then (turned swapped a b) (operation_pieces op) old between new first last))
+    (subst (λ y. new ≡ old ++ (swapped_if y a b ++ operation_pieces op)) (sym order)
+    (then (swapped_if swapped a b) (operation_pieces op) old between new first last))
 
 -- what is written for one more expression
 pieces_behind : (s : Scoped) (es : List Expr) (e : Expr)

@@ -4,6 +4,12 @@ use Rattle.xvalue.specs.declared.kind.Kind.{Kind}
 use Rattle.xvalue.specs.declared.kind.Kind.TheVariants.{Number, Text, Date, Logical}
 use Rattle.xvalue.specs.declared.fun.Fun.{Fun}
 use Rattle.xvalue.specs.declared.fun.Fun.TheVariants as fun
+use Rattle.xvalue.specs.declared.fun.Arithmetic.TheVariants as arithmetic
+use Rattle.xvalue.specs.declared.fun.NumberOrder.TheVariants as number_order
+use Rattle.xvalue.specs.declared.fun.NumberFun.TheVariants as number_fun
+use Rattle.xvalue.specs.declared.fun.TextFun.TheVariants as text_fun
+use Rattle.xvalue.specs.declared.fun.DateFun.TheVariants as date_fun
+use Rattle.xvalue.specs.declared.fun.TruthFun.TheVariants as truth_fun
 use Rattle.xvalue.specs.Kinds.{same_kind}
 use Rattle.prg_expr.specs.declared.tree.BinaryOperator.{BinaryOperator}
 use Rattle.prg_expr.specs.declared.tree.BinaryOperator.TheVariants.{Or, And, Equal, NotEqual, Less, Greater, AtMost}
@@ -25,21 +31,21 @@ turned f = record { fun = f; negated = false; swapped = true }
 
 -- two values of one kind are equal, the first is less, the first is greater; logical values aren't compared
 abbrev pub equality : Kind → Option Fun
-equality Number = Some fun.NumberEq
-equality Text = Some fun.TextEq
-equality Date = Some fun.DateEq
+equality Number = Some (fun.Compares number_order.NumberEq)
+equality Text = Some (fun.ToTruth truth_fun.TextEq)
+equality Date = Some (fun.ToTruth truth_fun.DateEq)
 equality Logical = None
 
 abbrev pub less : Kind → Option Fun
-less Number = Some fun.NumberLess
-less Text = Some fun.TextLess
-less Date = Some fun.DateLess
+less Number = Some (fun.Compares number_order.NumberLess)
+less Text = Some (fun.ToTruth truth_fun.TextLess)
+less Date = Some (fun.ToTruth truth_fun.DateLess)
 less Logical = None
 
 abbrev pub greater : Kind → Option Fun
-greater Number = Some fun.NumberGreater
-greater Text = Some fun.TextGreater
-greater Date = Some fun.DateGreater
+greater Number = Some (fun.Compares number_order.NumberGreater)
+greater Text = Some (fun.ToTruth truth_fun.TextGreater)
+greater Date = Some (fun.ToTruth truth_fun.DateGreater)
 greater Logical = None
 
 abbrev pub operation_if_some : (Fun → OperatorMeaning) → Option Fun → Option OperatorMeaning
@@ -61,17 +67,17 @@ compared_kinds operator left right = if same_kind left right then comparison ope
 
 -- numbers, texts, and days with numbers in either order
 abbrev pub added : Kind → Kind → Option OperatorMeaning
-added Number Number = Some (plain fun.Add)
-added Text Text = Some (plain fun.Join)
-added Date Number = Some (plain fun.DateAdd)
-added Number Date = Some (turned fun.DateAdd)
+added Number Number = Some (plain (fun.OfTwo arithmetic.Add))
+added Text Text = Some (plain (fun.ToText text_fun.Join))
+added Date Number = Some (plain (fun.ToDate date_fun.DateAdd))
+added Number Date = Some (turned (fun.ToDate date_fun.DateAdd))
 added _ _ = None
 
 abbrev pub subtracted : Kind → Kind → Option OperatorMeaning
-subtracted Number Number = Some (plain fun.Sub)
-subtracted Text Text = Some (plain fun.JoinMoved)
-subtracted Date Number = Some (plain fun.DateSub)
-subtracted Date Date = Some (plain fun.DateDiff)
+subtracted Number Number = Some (plain (fun.OfTwo arithmetic.Sub))
+subtracted Text Text = Some (plain (fun.ToText text_fun.JoinMoved))
+subtracted Date Number = Some (plain (fun.ToDate date_fun.DateSub))
+subtracted Date Date = Some (plain (fun.ToNumber number_fun.DateDiff))
 subtracted _ _ = None
 
 -- the function of two operands of this kind
@@ -79,11 +85,11 @@ abbrev pub of_both : Fun → Kind → Kind → Kind → Option OperatorMeaning
 of_both f kind left right = if same_kind left kind && same_kind right kind then Some (plain f) else None
 
 abbrev pub operated : BinaryOperator → Kind → Kind → Option OperatorMeaning
-operated Or left right = of_both fun.Or Logical left right
-operated And left right = of_both fun.And Logical left right
-operated Contains left right = of_both fun.In Text left right
-operated Times left right = of_both fun.Mul Number left right
-operated Over left right = of_both fun.Div Number left right
+operated Or left right = of_both (fun.ToTruth truth_fun.Or) Logical left right
+operated And left right = of_both (fun.ToTruth truth_fun.And) Logical left right
+operated Contains left right = of_both (fun.ToTruth truth_fun.In) Text left right
+operated Times left right = of_both (fun.OfTwo arithmetic.Mul) Number left right
+operated Over left right = of_both (fun.OfTwo arithmetic.Div) Number left right
 operated Plus left right = added left right
 operated Minus left right = subtracted left right
 operated Equal left right = compared_kinds Equal left right
@@ -101,6 +107,6 @@ prefix_kind Positive = Number
 
 -- a plus sign does nothing
 abbrev pub prefix_fun : Prefix → Option Fun
-prefix_fun Not = Some fun.Not
-prefix_fun Negative = Some fun.Neg
+prefix_fun Not = Some (fun.ToTruth truth_fun.Not)
+prefix_fun Negative = Some (fun.ToNumber number_fun.Neg)
 prefix_fun Positive = None

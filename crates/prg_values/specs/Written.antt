@@ -7,6 +7,11 @@ use Rattle.xvalue.specs.declared.kind.Kind.{Kind}
 use Rattle.xvalue.specs.declared.kind.Kind.TheVariants as kind
 use Rattle.xvalue.specs.declared.fun.Fun.{Fun}
 use Rattle.xvalue.specs.declared.fun.Fun.TheVariants as fun
+use Rattle.xvalue.specs.declared.fun.Arithmetic.TheVariants as arithmetic
+use Rattle.xvalue.specs.declared.fun.NumberFun.TheVariants as number_fun
+use Rattle.xvalue.specs.declared.fun.TextFun.TheVariants as text_fun
+use Rattle.xvalue.specs.declared.fun.DateFun.TheVariants as date_fun
+use Rattle.xvalue.specs.declared.fun.TruthFun.TheVariants as truth_fun
 use Rattle.xvalue.specs.declared.value.Value.{Value}
 use Rattle.xvalue.specs.declared.value.Value.TheVariants as value
 use Rattle.xvalue.specs.Kinds.{same_kind, kind_of}
@@ -39,43 +44,43 @@ use Rattle.prg_values.specs.Readings.{Scoped, on_some, read_name, read_qualified
 
 -- what functions by name do: those of texts
 abbrev pub fun_of_texts : Function → Option Fun
-fun_of_texts function.Len = Some fun.Len
-fun_of_texts function.Substr = Some fun.Substr
-fun_of_texts function.Left = Some fun.Left
-fun_of_texts function.Right = Some fun.Right
-fun_of_texts function.Trim = Some fun.Trim
-fun_of_texts function.Ltrim = Some fun.Ltrim
-fun_of_texts function.Upper = Some fun.Upper
-fun_of_texts function.Lower = Some fun.Lower
-fun_of_texts function.Space = Some fun.Space
-fun_of_texts function.Replicate = Some fun.Replicate
-fun_of_texts function.At = Some fun.At
-fun_of_texts function.Stuff = Some fun.Stuff
-fun_of_texts function.Asc = Some fun.Asc
-fun_of_texts function.Chr = Some fun.Chr
-fun_of_texts function.Val = Some fun.Val
-fun_of_texts function.Str = Some fun.Str
-fun_of_texts function.IsAlpha = Some fun.IsAlpha
-fun_of_texts function.IsUpper = Some fun.IsUpper
-fun_of_texts function.IsLower = Some fun.IsLower
+fun_of_texts function.Len = Some (fun.ToNumber number_fun.Len)
+fun_of_texts function.Substr = Some (fun.ToText text_fun.Substr)
+fun_of_texts function.Left = Some (fun.ToText text_fun.Left)
+fun_of_texts function.Right = Some (fun.ToText text_fun.Right)
+fun_of_texts function.Trim = Some (fun.ToText text_fun.Trim)
+fun_of_texts function.Ltrim = Some (fun.ToText text_fun.Ltrim)
+fun_of_texts function.Upper = Some (fun.ToText text_fun.Upper)
+fun_of_texts function.Lower = Some (fun.ToText text_fun.Lower)
+fun_of_texts function.Space = Some (fun.ToText text_fun.Space)
+fun_of_texts function.Replicate = Some (fun.ToText text_fun.Replicate)
+fun_of_texts function.At = Some (fun.ToNumber number_fun.At)
+fun_of_texts function.Stuff = Some (fun.ToText text_fun.Stuff)
+fun_of_texts function.Asc = Some (fun.ToNumber number_fun.Asc)
+fun_of_texts function.Chr = Some (fun.ToText text_fun.Chr)
+fun_of_texts function.Val = Some (fun.ToNumber number_fun.Val)
+fun_of_texts function.Str = Some (fun.ToText text_fun.Str)
+fun_of_texts function.IsAlpha = Some (fun.ToTruth truth_fun.IsAlpha)
+fun_of_texts function.IsUpper = Some (fun.ToTruth truth_fun.IsUpper)
+fun_of_texts function.IsLower = Some (fun.ToTruth truth_fun.IsLower)
 fun_of_texts _ = None
 
 -- those of numbers and dates
 abbrev pub of_numbers_and_dates : Function → Option Fun
-of_numbers_and_dates function.Abs = Some fun.Abs
-of_numbers_and_dates function.Int = Some fun.Int
-of_numbers_and_dates function.Mod = Some fun.Mod
-of_numbers_and_dates function.Round = Some fun.Round
-of_numbers_and_dates function.Max = Some fun.Max
-of_numbers_and_dates function.Min = Some fun.Min
-of_numbers_and_dates function.Ctod = Some fun.Ctod
-of_numbers_and_dates function.Dtoc = Some fun.Dtoc
-of_numbers_and_dates function.Day = Some fun.Day
-of_numbers_and_dates function.Month = Some fun.Month
-of_numbers_and_dates function.Year = Some fun.Year
-of_numbers_and_dates function.Dow = Some fun.Dow
-of_numbers_and_dates function.Cdow = Some fun.Cdow
-of_numbers_and_dates function.Cmonth = Some fun.Cmonth
+of_numbers_and_dates function.Abs = Some (fun.ToNumber number_fun.Abs)
+of_numbers_and_dates function.Int = Some (fun.ToNumber number_fun.Int)
+of_numbers_and_dates function.Mod = Some (fun.OfTwo arithmetic.Mod)
+of_numbers_and_dates function.Round = Some (fun.OfTwo arithmetic.Round)
+of_numbers_and_dates function.Max = Some (fun.OfTwo arithmetic.Max)
+of_numbers_and_dates function.Min = Some (fun.OfTwo arithmetic.Min)
+of_numbers_and_dates function.Ctod = Some (fun.ToDate date_fun.Ctod)
+of_numbers_and_dates function.Dtoc = Some (fun.ToText text_fun.Dtoc)
+of_numbers_and_dates function.Day = Some (fun.ToNumber number_fun.Day)
+of_numbers_and_dates function.Month = Some (fun.ToNumber number_fun.Month)
+of_numbers_and_dates function.Year = Some (fun.ToNumber number_fun.Year)
+of_numbers_and_dates function.Dow = Some (fun.ToNumber number_fun.Dow)
+of_numbers_and_dates function.Cdow = Some (fun.ToText text_fun.Cdow)
+of_numbers_and_dates function.Cmonth = Some (fun.ToText text_fun.Cmonth)
 of_numbers_and_dates _ = None
 
 -- questions to the selected area
@@ -109,10 +114,10 @@ defaults _ n = []
 
 -- IIF by the kind of what it chooses from
 abbrev pub choice_for : Kind → Fun
-choice_for kind.Number = fun.IifNumber
-choice_for kind.Text = fun.IifText
-choice_for kind.Date = fun.IifDate
-choice_for kind.Logical = fun.IifLogical
+choice_for kind.Number = fun.ToNumber number_fun.IifNumber
+choice_for kind.Text = fun.ToText text_fun.IifText
+choice_for kind.Date = fun.ToDate date_fun.IifDate
+choice_for kind.Logical = fun.ToTruth truth_fun.IifLogical
 
 -- it takes a truth value, and two values of one kind
 abbrev pub choice : List Kind → Option Fun
@@ -214,15 +219,15 @@ prefix_pieces None = []
 prefix_pieces (Some f) = calls f ∷ []
 
 abbrev pub denial : Bool → List Piece
-denial true = calls fun.Not ∷ []
+denial true = calls (fun.ToTruth truth_fun.Not) ∷ []
 denial false = []
 
 abbrev pub operation_pieces : OperatorMeaning → List Piece
 operation_pieces o = calls o.fun ∷ denial o.negated
 
-abbrev pub turned : Bool → List Piece → List Piece → List Piece
-turned true a b = b ++ a
-turned false a b = a ++ b
+abbrev pub swapped_if : Bool → List Piece → List Piece → List Piece
+swapped_if true a b = b ++ a
+swapped_if false a b = a ++ b
 
 -- what an operator does between operands of these kinds, if it is known
 abbrev pub operation_in : BinaryOperator → Option Kind → Option Kind → Option OperatorMeaning
@@ -231,7 +236,7 @@ operation_in o a b = on_some a None (λ one. on_some b None (operated o one))
 -- the operands in the order that the function takes them, and the function
 abbrev pub operator_pieces : Option OperatorMeaning → List Piece → List Piece → List Piece
 operator_pieces None a b = []
-operator_pieces (Some o) a b = turned o.swapped a b ++ operation_pieces o
+operator_pieces (Some o) a b = swapped_if o.swapped a b ++ operation_pieces o
 
 abbrev mutual
   pub pieces_in : Scoped → Tree → List Piece

@@ -11,7 +11,7 @@ use code_items::Question;
 use code_rules::kinds::kind_asked;
 use prg_code::CompileFaultKind;
 use prg_expr::Function;
-use xvalue::{Fun, Kind};
+use xvalue::{Arithmetic, DateFun, Fun, Kind, NumberFun, TextFun, TruthFun};
 
 /// What a function by name does.
 #[derive(Clone, Copy)]
@@ -30,25 +30,25 @@ fn of_texts(function: Function) -> Option<Fun>
     ensures { result ≡ spec.fun_of_texts function }
 {
     match function {
-        Function::Len => Some(Fun::Len),
-        Function::Substr => Some(Fun::Substr),
-        Function::Left => Some(Fun::Left),
-        Function::Right => Some(Fun::Right),
-        Function::Trim => Some(Fun::Trim),
-        Function::Ltrim => Some(Fun::Ltrim),
-        Function::Upper => Some(Fun::Upper),
-        Function::Lower => Some(Fun::Lower),
-        Function::Space => Some(Fun::Space),
-        Function::Replicate => Some(Fun::Replicate),
-        Function::At => Some(Fun::At),
-        Function::Stuff => Some(Fun::Stuff),
-        Function::Asc => Some(Fun::Asc),
-        Function::Chr => Some(Fun::Chr),
-        Function::Val => Some(Fun::Val),
-        Function::Str => Some(Fun::Str),
-        Function::IsAlpha => Some(Fun::IsAlpha),
-        Function::IsUpper => Some(Fun::IsUpper),
-        Function::IsLower => Some(Fun::IsLower),
+        Function::Len => Some(Fun::ToNumber(NumberFun::Len)),
+        Function::Substr => Some(Fun::ToText(TextFun::Substr)),
+        Function::Left => Some(Fun::ToText(TextFun::Left)),
+        Function::Right => Some(Fun::ToText(TextFun::Right)),
+        Function::Trim => Some(Fun::ToText(TextFun::Trim)),
+        Function::Ltrim => Some(Fun::ToText(TextFun::Ltrim)),
+        Function::Upper => Some(Fun::ToText(TextFun::Upper)),
+        Function::Lower => Some(Fun::ToText(TextFun::Lower)),
+        Function::Space => Some(Fun::ToText(TextFun::Space)),
+        Function::Replicate => Some(Fun::ToText(TextFun::Replicate)),
+        Function::At => Some(Fun::ToNumber(NumberFun::At)),
+        Function::Stuff => Some(Fun::ToText(TextFun::Stuff)),
+        Function::Asc => Some(Fun::ToNumber(NumberFun::Asc)),
+        Function::Chr => Some(Fun::ToText(TextFun::Chr)),
+        Function::Val => Some(Fun::ToNumber(NumberFun::Val)),
+        Function::Str => Some(Fun::ToText(TextFun::Str)),
+        Function::IsAlpha => Some(Fun::ToTruth(TruthFun::IsAlpha)),
+        Function::IsUpper => Some(Fun::ToTruth(TruthFun::IsUpper)),
+        Function::IsLower => Some(Fun::ToTruth(TruthFun::IsLower)),
         _ => None,
     }
 }
@@ -57,20 +57,20 @@ fn of_numbers_and_dates(function: Function) -> Option<Fun>
     ensures { result ≡ spec.of_numbers_and_dates function }
 {
     match function {
-        Function::Abs => Some(Fun::Abs),
-        Function::Int => Some(Fun::Int),
-        Function::Mod => Some(Fun::Mod),
-        Function::Round => Some(Fun::Round),
-        Function::Max => Some(Fun::Max),
-        Function::Min => Some(Fun::Min),
-        Function::Ctod => Some(Fun::Ctod),
-        Function::Dtoc => Some(Fun::Dtoc),
-        Function::Day => Some(Fun::Day),
-        Function::Month => Some(Fun::Month),
-        Function::Year => Some(Fun::Year),
-        Function::Dow => Some(Fun::Dow),
-        Function::Cdow => Some(Fun::Cdow),
-        Function::Cmonth => Some(Fun::Cmonth),
+        Function::Abs => Some(Fun::ToNumber(NumberFun::Abs)),
+        Function::Int => Some(Fun::ToNumber(NumberFun::Int)),
+        Function::Mod => Some(Fun::OfTwo(Arithmetic::Mod)),
+        Function::Round => Some(Fun::OfTwo(Arithmetic::Round)),
+        Function::Max => Some(Fun::OfTwo(Arithmetic::Max)),
+        Function::Min => Some(Fun::OfTwo(Arithmetic::Min)),
+        Function::Ctod => Some(Fun::ToDate(DateFun::Ctod)),
+        Function::Dtoc => Some(Fun::ToText(TextFun::Dtoc)),
+        Function::Day => Some(Fun::ToNumber(NumberFun::Day)),
+        Function::Month => Some(Fun::ToNumber(NumberFun::Month)),
+        Function::Year => Some(Fun::ToNumber(NumberFun::Year)),
+        Function::Dow => Some(Fun::ToNumber(NumberFun::Dow)),
+        Function::Cdow => Some(Fun::ToText(TextFun::Cdow)),
+        Function::Cmonth => Some(Fun::ToText(TextFun::Cmonth)),
         _ => None,
     }
 }
@@ -120,10 +120,10 @@ fn choice_for(kind: Kind) -> Fun
     ensures { result ≡ spec.choice_for kind }
 {
     match kind {
-        Kind::Number => Fun::IifNumber,
-        Kind::Text => Fun::IifText,
-        Kind::Date => Fun::IifDate,
-        Kind::Logical => Fun::IifLogical,
+        Kind::Number => Fun::ToNumber(NumberFun::IifNumber),
+        Kind::Text => Fun::ToText(TextFun::IifText),
+        Kind::Date => Fun::ToDate(DateFun::IifDate),
+        Kind::Logical => Fun::ToTruth(TruthFun::IifLogical),
     }
 }
 

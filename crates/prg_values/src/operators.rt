@@ -4,7 +4,7 @@ ghost use Rattle.std.specs.Prelude.{◌≡◌};
 ghost use Rattle.prg_values.specs.Operators as spec;
 
 use prg_expr::{BinaryOperator, Prefix};
-use xvalue::{Fun, Kind};
+use xvalue::{Arithmetic, DateFun, Fun, Kind, NumberFun, NumberOrder, TextFun, TruthFun};
 
 /// What an operator does: the function, whether its truth value is turned, and whether the right operand comes first.
 #[derive(Clone, Copy)]
@@ -38,9 +38,9 @@ fn equality(kind: Kind) -> Option<Fun>
     ensures { result ≡ spec.equality kind }
 {
     match kind {
-        Kind::Number => Some(Fun::NumberEq),
-        Kind::Text => Some(Fun::TextEq),
-        Kind::Date => Some(Fun::DateEq),
+        Kind::Number => Some(Fun::Compares(NumberOrder::NumberEq)),
+        Kind::Text => Some(Fun::ToTruth(TruthFun::TextEq)),
+        Kind::Date => Some(Fun::ToTruth(TruthFun::DateEq)),
         Kind::Logical => None,
     }
 }
@@ -49,9 +49,9 @@ fn less(kind: Kind) -> Option<Fun>
     ensures { result ≡ spec.less kind }
 {
     match kind {
-        Kind::Number => Some(Fun::NumberLess),
-        Kind::Text => Some(Fun::TextLess),
-        Kind::Date => Some(Fun::DateLess),
+        Kind::Number => Some(Fun::Compares(NumberOrder::NumberLess)),
+        Kind::Text => Some(Fun::ToTruth(TruthFun::TextLess)),
+        Kind::Date => Some(Fun::ToTruth(TruthFun::DateLess)),
         Kind::Logical => None,
     }
 }
@@ -60,9 +60,9 @@ fn greater(kind: Kind) -> Option<Fun>
     ensures { result ≡ spec.greater kind }
 {
     match kind {
-        Kind::Number => Some(Fun::NumberGreater),
-        Kind::Text => Some(Fun::TextGreater),
-        Kind::Date => Some(Fun::DateGreater),
+        Kind::Number => Some(Fun::Compares(NumberOrder::NumberGreater)),
+        Kind::Text => Some(Fun::ToTruth(TruthFun::TextGreater)),
+        Kind::Date => Some(Fun::ToTruth(TruthFun::DateGreater)),
         Kind::Logical => None,
     }
 }
@@ -114,11 +114,11 @@ fn added(left: Kind, right: Kind) -> Option<OperatorMeaning>
     ensures { result ≡ spec.added left right }
 {
     match (left, right) {
-        (Kind::Number, Kind::Number) => Some(plain(Fun::Add)),
-        (Kind::Text, Kind::Text) => Some(plain(Fun::Join)),
-        (Kind::Date, Kind::Number) => Some(plain(Fun::DateAdd)),
+        (Kind::Number, Kind::Number) => Some(plain(Fun::OfTwo(Arithmetic::Add))),
+        (Kind::Text, Kind::Text) => Some(plain(Fun::ToText(TextFun::Join))),
+        (Kind::Date, Kind::Number) => Some(plain(Fun::ToDate(DateFun::DateAdd))),
         (Kind::Number, Kind::Date) => Some(OperatorMeaning {
-            fun: Fun::DateAdd,
+            fun: Fun::ToDate(DateFun::DateAdd),
             negated: false,
             swapped: true,
         }),
@@ -130,10 +130,10 @@ fn subtracted(left: Kind, right: Kind) -> Option<OperatorMeaning>
     ensures { result ≡ spec.subtracted left right }
 {
     match (left, right) {
-        (Kind::Number, Kind::Number) => Some(plain(Fun::Sub)),
-        (Kind::Text, Kind::Text) => Some(plain(Fun::JoinMoved)),
-        (Kind::Date, Kind::Number) => Some(plain(Fun::DateSub)),
-        (Kind::Date, Kind::Date) => Some(plain(Fun::DateDiff)),
+        (Kind::Number, Kind::Number) => Some(plain(Fun::OfTwo(Arithmetic::Sub))),
+        (Kind::Text, Kind::Text) => Some(plain(Fun::ToText(TextFun::JoinMoved))),
+        (Kind::Date, Kind::Number) => Some(plain(Fun::ToDate(DateFun::DateSub))),
+        (Kind::Date, Kind::Date) => Some(plain(Fun::ToNumber(NumberFun::DateDiff))),
         _ => None,
     }
 }
@@ -154,11 +154,11 @@ pub fn operated(operator: BinaryOperator, left: Kind, right: Kind) -> Option<Ope
     ensures { result ≡ spec.operated operator left right }
 {
     match operator {
-        BinaryOperator::Or => of_both(Fun::Or, Kind::Logical, left, right),
-        BinaryOperator::And => of_both(Fun::And, Kind::Logical, left, right),
-        BinaryOperator::Contains => of_both(Fun::In, Kind::Text, left, right),
-        BinaryOperator::Times => of_both(Fun::Mul, Kind::Number, left, right),
-        BinaryOperator::Over => of_both(Fun::Div, Kind::Number, left, right),
+        BinaryOperator::Or => of_both(Fun::ToTruth(TruthFun::Or), Kind::Logical, left, right),
+        BinaryOperator::And => of_both(Fun::ToTruth(TruthFun::And), Kind::Logical, left, right),
+        BinaryOperator::Contains => of_both(Fun::ToTruth(TruthFun::In), Kind::Text, left, right),
+        BinaryOperator::Times => of_both(Fun::OfTwo(Arithmetic::Mul), Kind::Number, left, right),
+        BinaryOperator::Over => of_both(Fun::OfTwo(Arithmetic::Div), Kind::Number, left, right),
         BinaryOperator::Plus => added(left, right),
         BinaryOperator::Minus => subtracted(left, right),
         _ => compared(operator, left, right),
@@ -180,8 +180,8 @@ pub fn prefix_fun(prefix: Prefix) -> Option<Fun>
     ensures { result ≡ spec.prefix_fun prefix }
 {
     match prefix {
-        Prefix::Not => Some(Fun::Not),
-        Prefix::Negative => Some(Fun::Neg),
+        Prefix::Not => Some(Fun::ToTruth(TruthFun::Not)),
+        Prefix::Negative => Some(Fun::ToNumber(NumberFun::Neg)),
         Prefix::Positive => None,
     }
 }

@@ -17,7 +17,7 @@ use fixed_num::Num;
 use prg_code::{CompileError, CompileFaultKind};
 use prg_expr::{AliasedName, Expr, Function, Literal};
 use std::alloc::Global;
-use xvalue::{Fun, Value, text_from};
+use xvalue::{Fun, TruthFun, Value, text_from};
 
 /// A piece of an expression's code.
 #[derive(Drop)]
@@ -106,7 +106,7 @@ fn put_denial(code: &mut Vec<Piece>, negated: bool) -> Result<(), CompileError>
     ensures { OnOk result (code.new.items ≡ code.old.items ++ spec.denial negated) }
 {
     if negated {
-        put_function(code, Fun::Not)
+        put_function(code, Fun::ToTruth(TruthFun::Not))
     } else {
         Ok(())
     }

@@ -1,7 +1,8 @@
 //! What a function gives of values.
 
 ghost use Rattle.std.specs.Prelude.{◌≡◌, ◌≤◌, ◌↔◌, ◌⊎◌, [], ◌∷◌, IsSome, IfSome, length};
-ghost use Rattle.xvalue.specs.declared.fun.Fun.TheVariants.{Left, Right, Trim, Ltrim};
+ghost use Rattle.xvalue.specs.declared.fun.Fun.TheVariants.{ToText};
+ghost use Rattle.xvalue.specs.declared.fun.TextFun.TheVariants.{Left, Right, Trim, Ltrim};
 ghost use Rattle.xvalue.specs.declared.kind.Kind.TheVariants.{Number as OfNumber, Text as OfText, Date as OfDate};
 ghost use Rattle.xvalue.specs.declared.kind.Kind.TheVariants.{Logical as OfLogical};
 ghost use Rattle.xvalue.specs.declared.settings.Settings.{Settings as AnySettings};
@@ -13,8 +14,9 @@ use calendar::Day;
 use fixed_num::{Num, without_blanks, without_last_blanks};
 use xvalue::apply::{number_of_two, truth_of_two};
 use xvalue::{
-    Fun, Settings, begins_with_capital, begins_with_letter, begins_with_small, count_of, eq_text,
-    first_byte, first_place, front, last_part, less_text, part_from, place_of,
+    DateFun, Fun, NumberFun, Settings, TextFun, TruthFun, begins_with_capital, begins_with_letter,
+    begins_with_small, count_of, eq_text, first_byte, first_place, front, last_part, less_text,
+    part_from, place_of,
 };
 
 /// The number that a function gives of two numbers; none of another function.
@@ -23,10 +25,8 @@ pub fn number_of_numbers(fun: Fun, first: Num, second: Num) -> Option<Num>
         IsGiven fun settings (IsNumber first ∷ IsNumber second ∷ []) (IsNumber number)) }
     ensures some { IsSome result ↔ HasSignature fun (OfNumber ∷ OfNumber ∷ []) OfNumber }
 {
-    use Fun::*;
-
     match fun {
-        Add | Sub | Mul | Div | Mod | Round | Max | Min => Some(number_of_two(fun, first, second)),
+        Fun::OfTwo(fun) => Some(number_of_two(fun, first, second)),
         _ => None,
     }
 }
@@ -39,9 +39,7 @@ pub fn truth_of_numbers(fun: Fun, first: Num, second: Num) -> Option<bool>
     ensures some { IsSome result ↔ HasSignature fun (OfNumber ∷ OfNumber ∷ []) OfLogical }
 {
     match fun {
-        Fun::NumberEq | Fun::NumberLess | Fun::NumberGreater => {
-            Some(truth_of_two(fun, &first, &second))
-        }
+        Fun::Compares(order) => Some(truth_of_two(order, &first, &second)),
         _ => None,
     }
 }
@@ -54,10 +52,10 @@ pub fn truth_of_texts(fun: Fun, settings: Settings, first: &[u8], second: &[u8])
     ensures some { IsSome result ↔ HasSignature fun (OfText ∷ OfText ∷ []) OfLogical }
 {
     match fun {
-        Fun::TextEq => Some(eq_text(first, second, settings.exact)),
-        Fun::TextLess => Some(less_text(first, second)),
-        Fun::TextGreater => Some(less_text(second, first)),
-        Fun::In => Some(first_place(first, second).is_some()),
+        Fun::ToTruth(TruthFun::TextEq) => Some(eq_text(first, second, settings.exact)),
+        Fun::ToTruth(TruthFun::TextLess) => Some(less_text(first, second)),
+        Fun::ToTruth(TruthFun::TextGreater) => Some(less_text(second, first)),
+        Fun::ToTruth(TruthFun::In) => Some(first_place(first, second).is_some()),
         _ => None,
     }
 }
@@ -70,9 +68,9 @@ pub fn truth_of_dates(fun: Fun, first: Day, second: Day) -> Option<bool>
     ensures some { IsSome result ↔ HasSignature fun (OfDate ∷ OfDate ∷ []) OfLogical }
 {
     match fun {
-        Fun::DateEq => Some(first.is(second)),
-        Fun::DateLess => Some(first.is_before(second)),
-        Fun::DateGreater => Some(second.is_before(first)),
+        Fun::ToTruth(TruthFun::DateEq) => Some(first.is(second)),
+        Fun::ToTruth(TruthFun::DateLess) => Some(first.is_before(second)),
+        Fun::ToTruth(TruthFun::DateGreater) => Some(second.is_before(first)),
         _ => None,
     }
 }
@@ -85,7 +83,7 @@ pub fn number_of_dates(fun: Fun, first: Day, second: Day) -> Option<Num>
     ensures some { IsSome result ↔ HasSignature fun (OfDate ∷ OfDate ∷ []) OfNumber }
 {
     match fun {
-        Fun::DateDiff => Some(first.days_since(second)),
+        Fun::ToNumber(NumberFun::DateDiff) => Some(first.days_since(second)),
         _ => None,
     }
 }
@@ -98,8 +96,8 @@ pub fn date_moved(fun: Fun, date: Day, number: Num) -> Option<Day>
     ensures some { IsSome result ↔ HasSignature fun (OfDate ∷ OfNumber ∷ []) OfDate }
 {
     match fun {
-        Fun::DateAdd => Some(date.plus(number)),
-        Fun::DateSub => Some(date.minus(number)),
+        Fun::ToDate(DateFun::DateAdd) => Some(date.plus(number)),
+        Fun::ToDate(DateFun::DateSub) => Some(date.minus(number)),
         _ => None,
     }
 }
@@ -113,8 +111,8 @@ pub fn truth_of_truths(fun: Fun, first: bool, second: bool) -> Option<bool>
     ensures some { IsSome result ↔ HasSignature fun (OfLogical ∷ OfLogical ∷ []) OfLogical }
 {
     match fun {
-        Fun::And => Some(first && second),
-        Fun::Or => Some(first || second),
+        Fun::ToTruth(TruthFun::And) => Some(first && second),
+        Fun::ToTruth(TruthFun::Or) => Some(first || second),
         _ => None,
     }
 }
@@ -128,7 +126,7 @@ pub fn truth_of_truth(fun: Fun, given: bool) -> Option<bool>
     ensures some { IsSome result ↔ HasSignature fun (OfLogical ∷ []) OfLogical }
 {
     match fun {
-        Fun::Not => Some(!given),
+        Fun::ToTruth(TruthFun::Not) => Some(!given),
         _ => None,
     }
 }
@@ -141,9 +139,9 @@ pub fn number_of_number(fun: Fun, given: Num) -> Option<Num>
     ensures some { IsSome result ↔ HasSignature fun (OfNumber ∷ []) OfNumber }
 {
     match fun {
-        Fun::Neg => Some(given.neg()),
-        Fun::Abs => Some(given.abs()),
-        Fun::Int => Some(given.int()),
+        Fun::ToNumber(NumberFun::Neg) => Some(given.neg()),
+        Fun::ToNumber(NumberFun::Abs) => Some(given.abs()),
+        Fun::ToNumber(NumberFun::Int) => Some(given.int()),
         _ => None,
     }
 }
@@ -156,10 +154,10 @@ pub fn number_of_date(fun: Fun, date: Day) -> Option<Num>
     ensures some { IsSome result ↔ HasSignature fun (OfDate ∷ []) OfNumber }
 {
     match fun {
-        Fun::Day => Some(Num::from(u32::from(date.day()))),
-        Fun::Month => Some(Num::from(u32::from(date.month()))),
-        Fun::Year => Some(Num::from(u32::from(date.year()))),
-        Fun::Dow => Some(Num::from(u32::from(date.weekday()))),
+        Fun::ToNumber(NumberFun::Day) => Some(Num::from(u32::from(date.day()))),
+        Fun::ToNumber(NumberFun::Month) => Some(Num::from(u32::from(date.month()))),
+        Fun::ToNumber(NumberFun::Year) => Some(Num::from(u32::from(date.year()))),
+        Fun::ToNumber(NumberFun::Dow) => Some(Num::from(u32::from(date.weekday()))),
         _ => None,
     }
 }
@@ -172,7 +170,7 @@ pub fn date_of_text(fun: Fun, text: &[u8]) -> Option<Day>
     ensures some { IsSome result ↔ HasSignature fun (OfText ∷ []) OfDate }
 {
     match fun {
-        Fun::Ctod => Some(Day::read(text)),
+        Fun::ToDate(DateFun::Ctod) => Some(Day::read(text)),
         _ => None,
     }
 }
@@ -184,11 +182,11 @@ pub fn part_of_text(fun: Fun, text: &[u8]) -> Option<&[u8]>
     ensures given { (settings : AnySettings) → IfSome result (λ part.
         IsGiven fun settings (IsText (record { items = text.now }) ∷ []) (IsText (record { items = part.now }))) }
     ensures short { IfSome result (λ part. length part.now ≤ 254) }
-    ensures some { IsSome result ↔ ((fun ≡ Trim) ⊎ (fun ≡ Ltrim)) }
+    ensures some { IsSome result ↔ ((fun ≡ ToText Trim) ⊎ (fun ≡ ToText Ltrim)) }
 {
     match fun {
-        Fun::Trim => Some(without_last_blanks(text)),
-        Fun::Ltrim => Some(without_blanks(text)),
+        Fun::ToText(TextFun::Trim) => Some(without_last_blanks(text)),
+        Fun::ToText(TextFun::Ltrim) => Some(without_blanks(text)),
         _ => None,
     }
 }
@@ -200,11 +198,11 @@ pub fn end_of_text(fun: Fun, text: &[u8], count: Num) -> Option<&[u8]>
     ensures given { (settings : AnySettings) → IfSome result (λ part. IsGiven fun settings
         (IsText (record { items = text.now }) ∷ IsNumber count ∷ []) (IsText (record { items = part.now }))) }
     ensures short { IfSome result (λ part. length part.now ≤ 254) }
-    ensures some { IsSome result ↔ ((fun ≡ Left) ⊎ (fun ≡ Right)) }
+    ensures some { IsSome result ↔ ((fun ≡ ToText Left) ⊎ (fun ≡ ToText Right)) }
 {
     match fun {
-        Fun::Left => Some(front(text, count_of(count))),
-        Fun::Right => Some(last_part(text, count_of(count))),
+        Fun::ToText(TextFun::Left) => Some(front(text, count_of(count))),
+        Fun::ToText(TextFun::Right) => Some(last_part(text, count_of(count))),
         _ => None,
     }
 }
@@ -220,7 +218,7 @@ pub fn piece_of_text(fun: Fun, text: &[u8], place: Num, count: Num) -> Option<&[
     ensures some { IsSome result ↔ HasSignature fun (OfText ∷ OfNumber ∷ OfNumber ∷ []) OfText }
 {
     match fun {
-        Fun::Substr => Some(part_from(text, count_of(place), count_of(count))),
+        Fun::ToText(TextFun::Substr) => Some(part_from(text, count_of(place), count_of(count))),
         _ => None,
     }
 }
@@ -234,9 +232,9 @@ pub fn number_of_text(fun: Fun, text: &[u8]) -> Option<Num>
     ensures some { IsSome result ↔ HasSignature fun (OfText ∷ []) OfNumber }
 {
     match fun {
-        Fun::Len => Some(Num::from(text.len() as u32)),
-        Fun::Asc => Some(Num::from(u32::from(first_byte(text)))),
-        Fun::Val => Some(Num::parse_prefix(text)),
+        Fun::ToNumber(NumberFun::Len) => Some(Num::from(text.len() as u32)),
+        Fun::ToNumber(NumberFun::Asc) => Some(Num::from(u32::from(first_byte(text)))),
+        Fun::ToNumber(NumberFun::Val) => Some(Num::parse_prefix(text)),
         _ => None,
     }
 }
@@ -250,7 +248,7 @@ pub fn number_of_texts(fun: Fun, first: &[u8], second: &[u8]) -> Option<Num>
     ensures some { IsSome result ↔ HasSignature fun (OfText ∷ OfText ∷ []) OfNumber }
 {
     match fun {
-        Fun::At => Some(Num::from(place_of(first, second) as u32)),
+        Fun::ToNumber(NumberFun::At) => Some(Num::from(place_of(first, second) as u32)),
         _ => None,
     }
 }
@@ -263,9 +261,9 @@ pub fn truth_of_text(fun: Fun, text: &[u8]) -> Option<bool>
     ensures some { IsSome result ↔ HasSignature fun (OfText ∷ []) OfLogical }
 {
     match fun {
-        Fun::IsAlpha => Some(begins_with_letter(text)),
-        Fun::IsUpper => Some(begins_with_capital(text)),
-        Fun::IsLower => Some(begins_with_small(text)),
+        Fun::ToTruth(TruthFun::IsAlpha) => Some(begins_with_letter(text)),
+        Fun::ToTruth(TruthFun::IsUpper) => Some(begins_with_capital(text)),
+        Fun::ToTruth(TruthFun::IsLower) => Some(begins_with_small(text)),
         _ => None,
     }
 }

@@ -4,13 +4,24 @@ use Rattle.std.proofs.Common.{Option, None, refl, arith, ◌∙◌, subst}
 use Rattle.std.proofs.lemmas.Bool.{and_parts, eqb-true}
 use Rattle.std.proofs.lemmas.Option.{same_Some}
 use Rattle.xvalue.specs.declared.fun.Fun.{Fun}
-use Rattle.xvalue.specs.declared.fun.Fun.TheVariants.{Add, Sub, Mul, Div, Neg, NumberEq, NumberLess, NumberGreater}
-use Rattle.xvalue.specs.declared.fun.Fun.TheVariants.{TextEq, TextLess, TextGreater, DateEq, DateLess, DateGreater, Not}
-use Rattle.xvalue.specs.declared.fun.Fun.TheVariants.{And, Or, Join, JoinMoved, In, DateAdd, DateSub, DateDiff}
-use Rattle.xvalue.specs.declared.fun.Fun.TheVariants.{IifNumber, IifText, IifDate, IifLogical, Len, Substr, Left, Right}
-use Rattle.xvalue.specs.declared.fun.Fun.TheVariants.{Trim, Ltrim, Upper, Lower, Space, Replicate, At, Stuff, Asc, Chr}
-use Rattle.xvalue.specs.declared.fun.Fun.TheVariants.{Val, Str, IsAlpha, IsUpper, IsLower, Abs, Int, Mod, Round, Max}
-use Rattle.xvalue.specs.declared.fun.Fun.TheVariants.{Min, Ctod, Dtoc, Day, Month, Year, Dow, Cdow, Cmonth}
+use Rattle.xvalue.specs.declared.fun.Fun.TheVariants.{OfTwo, Compares, ToNumber, ToText, ToDate, ToTruth}
+use Rattle.xvalue.specs.declared.fun.Arithmetic.{Arithmetic}
+use Rattle.xvalue.specs.declared.fun.Arithmetic.TheVariants.{Add, Sub, Mul, Div, Mod, Round, Max, Min}
+use Rattle.xvalue.specs.declared.fun.NumberOrder.{NumberOrder}
+use Rattle.xvalue.specs.declared.fun.NumberOrder.TheVariants.{NumberEq, NumberLess, NumberGreater}
+use Rattle.xvalue.specs.declared.fun.NumberFun.{NumberFun}
+use Rattle.xvalue.specs.declared.fun.NumberFun.TheVariants.{Neg, DateDiff, IifNumber, Len, At, Asc, Val, Abs, Int}
+use Rattle.xvalue.specs.declared.fun.NumberFun.TheVariants.{Day, Month, Year, Dow}
+use Rattle.xvalue.specs.declared.fun.TextFun.{TextFun}
+use Rattle.xvalue.specs.declared.fun.TextFun.TheVariants.{Join, JoinMoved, IifText, Substr, Left, Right, Trim, Ltrim}
+use Rattle.xvalue.specs.declared.fun.TextFun.TheVariants.{Upper, Lower, Space, Replicate, Stuff, Chr, Str, Dtoc, Cdow}
+use Rattle.xvalue.specs.declared.fun.TextFun.TheVariants.{Cmonth}
+use Rattle.xvalue.specs.declared.fun.DateFun.{DateFun}
+use Rattle.xvalue.specs.declared.fun.DateFun.TheVariants.{DateAdd, DateSub, IifDate, Ctod}
+use Rattle.xvalue.specs.declared.fun.TruthFun.{TruthFun}
+use Rattle.xvalue.specs.declared.fun.TruthFun.TheVariants.{TextEq, TextLess, TextGreater, DateEq, DateLess}
+use Rattle.xvalue.specs.declared.fun.TruthFun.TheVariants.{DateGreater, Not, And, Or, In, IifLogical, IsAlpha}
+use Rattle.xvalue.specs.declared.fun.TruthFun.TheVariants.{IsUpper, IsLower}
 use Rattle.xvalue.specs.Signature.{function_number, all_functions, numbered, NumbersAgree}
 
 -- whether numbers rise by one from a first one
@@ -30,66 +41,66 @@ rising n (fun ∷ funs) r (suc k) =
     subst (λ m. IfSome (slice_get funs k) (λ f. function_number f ≡ m)) e (rising (suc n) funs p.1 k)
 
 each : (f : Fun) → numbered (function_number f) ≡ Some f
-each Add = refl
-each Sub = refl
-each Mul = refl
-each Div = refl
-each Neg = refl
-each NumberEq = refl
-each NumberLess = refl
-each NumberGreater = refl
-each TextEq = refl
-each TextLess = refl
-each TextGreater = refl
-each DateEq = refl
-each DateLess = refl
-each DateGreater = refl
-each Not = refl
-each And = refl
-each Or = refl
-each Join = refl
-each JoinMoved = refl
-each In = refl
-each DateAdd = refl
-each DateSub = refl
-each DateDiff = refl
-each IifNumber = refl
-each IifText = refl
-each IifDate = refl
-each IifLogical = refl
-each Len = refl
-each Substr = refl
-each Left = refl
-each Right = refl
-each Trim = refl
-each Ltrim = refl
-each Upper = refl
-each Lower = refl
-each Space = refl
-each Replicate = refl
-each At = refl
-each Stuff = refl
-each Asc = refl
-each Chr = refl
-each Val = refl
-each Str = refl
-each IsAlpha = refl
-each IsUpper = refl
-each IsLower = refl
-each Abs = refl
-each Int = refl
-each Mod = refl
-each Round = refl
-each Max = refl
-each Min = refl
-each Ctod = refl
-each Dtoc = refl
-each Day = refl
-each Month = refl
-each Year = refl
-each Dow = refl
-each Cdow = refl
-each Cmonth = refl
+each (OfTwo Add) = refl
+each (OfTwo Sub) = refl
+each (OfTwo Mul) = refl
+each (OfTwo Div) = refl
+each (ToNumber Neg) = refl
+each (Compares NumberEq) = refl
+each (Compares NumberLess) = refl
+each (Compares NumberGreater) = refl
+each (ToTruth TextEq) = refl
+each (ToTruth TextLess) = refl
+each (ToTruth TextGreater) = refl
+each (ToTruth DateEq) = refl
+each (ToTruth DateLess) = refl
+each (ToTruth DateGreater) = refl
+each (ToTruth Not) = refl
+each (ToTruth And) = refl
+each (ToTruth Or) = refl
+each (ToText Join) = refl
+each (ToText JoinMoved) = refl
+each (ToTruth In) = refl
+each (ToDate DateAdd) = refl
+each (ToDate DateSub) = refl
+each (ToNumber DateDiff) = refl
+each (ToNumber IifNumber) = refl
+each (ToText IifText) = refl
+each (ToDate IifDate) = refl
+each (ToTruth IifLogical) = refl
+each (ToNumber Len) = refl
+each (ToText Substr) = refl
+each (ToText Left) = refl
+each (ToText Right) = refl
+each (ToText Trim) = refl
+each (ToText Ltrim) = refl
+each (ToText Upper) = refl
+each (ToText Lower) = refl
+each (ToText Space) = refl
+each (ToText Replicate) = refl
+each (ToNumber At) = refl
+each (ToText Stuff) = refl
+each (ToNumber Asc) = refl
+each (ToText Chr) = refl
+each (ToNumber Val) = refl
+each (ToText Str) = refl
+each (ToTruth IsAlpha) = refl
+each (ToTruth IsUpper) = refl
+each (ToTruth IsLower) = refl
+each (ToNumber Abs) = refl
+each (ToNumber Int) = refl
+each (OfTwo Mod) = refl
+each (OfTwo Round) = refl
+each (OfTwo Max) = refl
+each (OfTwo Min) = refl
+each (ToDate Ctod) = refl
+each (ToText Dtoc) = refl
+each (ToNumber Day) = refl
+each (ToNumber Month) = refl
+each (ToNumber Year) = refl
+each (ToNumber Dow) = refl
+each (ToText Cdow) = refl
+each (ToText Cmonth) = refl
 
 if_some : {A : Type 0} (P : A → Type 0) (r : Option A) (x : A) → IfSome r P → r ≡ Some x → P x
 if_some P None x h e = absurd cc

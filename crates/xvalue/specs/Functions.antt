@@ -3,6 +3,7 @@ use Rattle.std.specs.Prelude.{ℕ, min, Bool, false, not, ◌&&◌, ◌||◌, �
 use Rattle.std.specs.Prelude.{replicate, if◌then◌else◌, Option, None, slice_index_or, is_some}
 use Rattle.std.specs.Char.{to_ascii_uppercase, to_ascii_lowercase, is_ascii_alphabetic, is_ascii_uppercase}
 use Rattle.std.specs.Char.{is_ascii_lowercase}
+use Rattle.std.specs.declared.cmp.Ordering.{Ordering}
 use Rattle.std.specs.Ordering.{is_eq, is_lt, is_gt}
 use Rattle.fixed_num.specs.Number.{Number as Decimal, finite}
 use Rattle.fixed_num.specs.Arithmetic.{sum_of, difference_of, product_of, quotient_of, modulus_of, negated, absolute}
@@ -15,13 +16,24 @@ use Rattle.xvalue.specs.declared.value.Value.{Value}
 use Rattle.xvalue.specs.declared.value.Value.TheVariants.{Number, Text, Date, Logical}
 use Rattle.xvalue.specs.declared.settings.Settings.{Settings}
 use Rattle.xvalue.specs.declared.fun.Fun.{Fun}
-use Rattle.xvalue.specs.declared.fun.Fun.TheVariants.{Add, Sub, Mul, Div, Neg, NumberEq, NumberLess, NumberGreater}
-use Rattle.xvalue.specs.declared.fun.Fun.TheVariants.{TextEq, TextLess, TextGreater, DateEq, DateLess, DateGreater, Not}
-use Rattle.xvalue.specs.declared.fun.Fun.TheVariants.{And, Or, Join, JoinMoved, In, DateAdd, DateSub, DateDiff}
-use Rattle.xvalue.specs.declared.fun.Fun.TheVariants.{IifNumber, IifText, IifDate, IifLogical, Len, Substr, Left, Right}
-use Rattle.xvalue.specs.declared.fun.Fun.TheVariants.{Trim, Ltrim, Upper, Lower, Space, Replicate, At, Stuff, Asc, Chr}
-use Rattle.xvalue.specs.declared.fun.Fun.TheVariants.{Val, Str, IsAlpha, IsUpper, IsLower, Abs, Int, Mod, Round, Max}
-use Rattle.xvalue.specs.declared.fun.Fun.TheVariants.{Min, Ctod, Dtoc, Day, Month, Year, Dow, Cdow, Cmonth}
+use Rattle.xvalue.specs.declared.fun.Fun.TheVariants.{OfTwo, Compares, ToNumber, ToText, ToDate, ToTruth}
+use Rattle.xvalue.specs.declared.fun.Arithmetic.{Arithmetic}
+use Rattle.xvalue.specs.declared.fun.Arithmetic.TheVariants.{Add, Sub, Mul, Div, Mod, Round, Max, Min}
+use Rattle.xvalue.specs.declared.fun.NumberOrder.{NumberOrder}
+use Rattle.xvalue.specs.declared.fun.NumberOrder.TheVariants.{NumberEq, NumberLess, NumberGreater}
+use Rattle.xvalue.specs.declared.fun.NumberFun.{NumberFun}
+use Rattle.xvalue.specs.declared.fun.NumberFun.TheVariants.{Neg, DateDiff, IifNumber, Len, At, Asc, Val, Abs, Int}
+use Rattle.xvalue.specs.declared.fun.NumberFun.TheVariants.{Day, Month, Year, Dow}
+use Rattle.xvalue.specs.declared.fun.TextFun.{TextFun}
+use Rattle.xvalue.specs.declared.fun.TextFun.TheVariants.{Join, JoinMoved, IifText, Substr, Left, Right, Trim, Ltrim}
+use Rattle.xvalue.specs.declared.fun.TextFun.TheVariants.{Upper, Lower, Space, Replicate, Stuff, Chr, Str, Dtoc, Cdow}
+use Rattle.xvalue.specs.declared.fun.TextFun.TheVariants.{Cmonth}
+use Rattle.xvalue.specs.declared.fun.DateFun.{DateFun}
+use Rattle.xvalue.specs.declared.fun.DateFun.TheVariants.{DateAdd, DateSub, IifDate, Ctod}
+use Rattle.xvalue.specs.declared.fun.TruthFun.{TruthFun}
+use Rattle.xvalue.specs.declared.fun.TruthFun.TheVariants.{TextEq, TextLess, TextGreater, DateEq, DateLess}
+use Rattle.xvalue.specs.declared.fun.TruthFun.TheVariants.{DateGreater, Not, And, Or, In, IifLogical, IsAlpha}
+use Rattle.xvalue.specs.declared.fun.TruthFun.TheVariants.{IsUpper, IsLower}
 use Rattle.xvalue.specs.Given.{Given}
 use Rattle.xvalue.specs.Texts.{fitting, without_last_blanks, equal_texts, is_text_before, joined_moved, count_of}
 use Rattle.xvalue.specs.Texts.{bytes_cut_from}
@@ -54,72 +66,96 @@ abbrev pub count_at : ℕ → Given → ℕ
 count_at place given = count_of (whole_given place given)
 
 -- a count as a number without decimals
-abbrev pub counted : ℕ → Value
-counted n = Number (finite (pos n) 0)
+abbrev pub counted : ℕ → Decimal
+counted n = finite (pos n) 0
 
 -- a text value: cut where it is longer than texts are
 abbrev pub text_value : List ℕ → Value
 text_value cs = Text (record { items = fitting cs })
 
+-- what functions of two numbers give
+abbrev pub of_two : Arithmetic → Decimal → Decimal → Decimal
+of_two Add x y = sum_of x y
+of_two Sub x y = difference_of x y
+of_two Mul x y = product_of x y
+of_two Div x y = quotient_of x y
+of_two Mod x y = modulus_of x y
+of_two Round x y = rounded_to (whole_part y) x
+of_two Max x y = greater_of x y
+of_two Min x y = lesser_of x y
+
+-- whether the order of two numbers is the one that is asked for
+abbrev pub is_in_order : NumberOrder → Ordering → Bool
+is_in_order NumberEq order = is_eq order
+is_in_order NumberLess order = is_lt order
+is_in_order NumberGreater order = is_gt order
+
+-- the number that any other function gives
+abbrev pub number_made : NumberFun → Given → Decimal
+number_made Neg g = negated (number_given 0 g)
+number_made DateDiff g = days_between (date_given 0 g) (date_given 1 g)
+number_made IifNumber g = if truth_given 0 g then number_given 0 g else number_given 1 g
+number_made Len g = counted (length (text_given 0 g))
+number_made At g = counted (place_number (first_place (text_given 0 g) (text_given 1 g)))
+number_made Asc g = counted (first_byte (text_given 0 g))
+number_made Val g = prefix_read (text_given 0 g)
+number_made Abs g = absolute (number_given 0 g)
+number_made Int g = cut (number_given 0 g)
+number_made Day g = counted (day_of (date_given 0 g))
+number_made Month g = counted (month_of (date_given 0 g))
+number_made Year g = counted (year_of (date_given 0 g))
+number_made Dow g = counted (weekday_of (date_given 0 g))
+
+-- the text that a function gives, before it is cut
+abbrev pub text_made : TextFun → Settings → Given → List ℕ
+text_made Join settings g = text_given 0 g ++ text_given 1 g
+text_made JoinMoved settings g = joined_moved (text_given 0 g) (text_given 1 g)
+text_made IifText settings g = if truth_given 0 g then text_given 0 g else text_given 1 g
+text_made Substr settings g = bytes_cut_from (count_at 0 g) (count_at 1 g) (text_given 0 g)
+text_made Left settings g = take (count_at 0 g) (text_given 0 g)
+text_made Right settings g = last_part (count_at 0 g) (text_given 0 g)
+text_made Trim settings g = without_last_blanks (text_given 0 g)
+text_made Ltrim settings g = without_blanks (text_given 0 g)
+text_made Upper settings g = map to_ascii_uppercase (text_given 0 g)
+text_made Lower settings g = map to_ascii_lowercase (text_given 0 g)
+text_made Space settings g = replicate (count_at 0 g) 32
+text_made Replicate settings g = repeated (count_at 0 g) (text_given 0 g)
+text_made Stuff settings g = stuffed (count_at 0 g) (count_at 1 g) (text_given 1 g) (text_given 0 g)
+text_made Chr settings g = byte_text (whole_given 0 g)
+text_made Str settings g = printed_in (min (count_at 1 g) 254) (min (count_at 2 g) 15) (number_given 0 g)
+text_made Dtoc settings g = shown_day settings (date_given 0 g)
+text_made Cdow settings g = weekday_name_of (date_given 0 g)
+text_made Cmonth settings g = month_name_of (date_given 0 g)
+
+-- the date that a function gives
+abbrev pub date_made : DateFun → Given → Option DayParts
+date_made DateAdd g = date_plus (date_given 0 g) (number_given 0 g)
+date_made DateSub g = date_minus (date_given 0 g) (number_given 0 g)
+date_made IifDate g = if truth_given 0 g then date_given 0 g else date_given 1 g
+date_made Ctod g = date_read (text_given 0 g)
+
+-- the truth value that any other function gives
+abbrev pub truth_made : TruthFun → Settings → Given → Bool
+truth_made TextEq settings g = equal_texts settings.exact (text_given 0 g) (text_given 1 g)
+truth_made TextLess settings g = is_text_before (text_given 0 g) (text_given 1 g)
+truth_made TextGreater settings g = is_text_before (text_given 1 g) (text_given 0 g)
+truth_made DateEq settings g = same_date (date_given 0 g) (date_given 1 g)
+truth_made DateLess settings g = is_earlier (date_given 0 g) (date_given 1 g)
+truth_made DateGreater settings g = is_earlier (date_given 1 g) (date_given 0 g)
+truth_made Not settings g = not (truth_given 0 g)
+truth_made And settings g = truth_given 0 g && truth_given 1 g
+truth_made Or settings g = truth_given 0 g || truth_given 1 g
+truth_made In settings g = is_some (first_place (text_given 0 g) (text_given 1 g))
+truth_made IifLogical settings g = if truth_given 0 g then truth_given 1 g else truth_given 2 g
+truth_made IsAlpha settings g = first_is is_ascii_alphabetic (text_given 0 g)
+truth_made IsUpper settings g = first_is is_ascii_uppercase (text_given 0 g)
+truth_made IsLower settings g = first_is is_ascii_lowercase (text_given 0 g)
+
 -- what a function gives of its arguments under the settings
 unfoldable pub applied : Fun → Settings → Given → Value
-applied Add settings g = Number (sum_of (number_given 0 g) (number_given 1 g))
-applied Sub settings g = Number (difference_of (number_given 0 g) (number_given 1 g))
-applied Mul settings g = Number (product_of (number_given 0 g) (number_given 1 g))
-applied Div settings g = Number (quotient_of (number_given 0 g) (number_given 1 g))
-applied Neg settings g = Number (negated (number_given 0 g))
-applied NumberEq settings g = Logical (is_eq (compared (number_given 0 g) (number_given 1 g)))
-applied NumberLess settings g = Logical (is_lt (compared (number_given 0 g) (number_given 1 g)))
-applied NumberGreater settings g = Logical (is_gt (compared (number_given 0 g) (number_given 1 g)))
-applied TextEq settings g = Logical (equal_texts settings.exact (text_given 0 g) (text_given 1 g))
-applied TextLess settings g = Logical (is_text_before (text_given 0 g) (text_given 1 g))
-applied TextGreater settings g = Logical (is_text_before (text_given 1 g) (text_given 0 g))
-applied DateEq settings g = Logical (same_date (date_given 0 g) (date_given 1 g))
-applied DateLess settings g = Logical (is_earlier (date_given 0 g) (date_given 1 g))
-applied DateGreater settings g = Logical (is_earlier (date_given 1 g) (date_given 0 g))
-applied Not settings g = Logical (not (truth_given 0 g))
-applied And settings g = Logical (truth_given 0 g && truth_given 1 g)
-applied Or settings g = Logical (truth_given 0 g || truth_given 1 g)
-applied Join settings g = text_value (text_given 0 g ++ text_given 1 g)
-applied JoinMoved settings g = text_value (joined_moved (text_given 0 g) (text_given 1 g))
-applied In settings g = Logical (is_some (first_place (text_given 0 g) (text_given 1 g)))
-applied DateAdd settings g = Date (date_plus (date_given 0 g) (number_given 0 g))
-applied DateSub settings g = Date (date_minus (date_given 0 g) (number_given 0 g))
-applied DateDiff settings g = Number (days_between (date_given 0 g) (date_given 1 g))
-applied IifNumber settings g = Number (if truth_given 0 g then number_given 0 g else number_given 1 g)
-applied IifText settings g = text_value (if truth_given 0 g then text_given 0 g else text_given 1 g)
-applied IifDate settings g = Date (if truth_given 0 g then date_given 0 g else date_given 1 g)
-applied IifLogical settings g = Logical (if truth_given 0 g then truth_given 1 g else truth_given 2 g)
-applied Len settings g = counted (length (text_given 0 g))
-applied Substr settings g = text_value (bytes_cut_from (count_at 0 g) (count_at 1 g) (text_given 0 g))
-applied Left settings g = text_value (take (count_at 0 g) (text_given 0 g))
-applied Right settings g = text_value (last_part (count_at 0 g) (text_given 0 g))
-applied Trim settings g = text_value (without_last_blanks (text_given 0 g))
-applied Ltrim settings g = text_value (without_blanks (text_given 0 g))
-applied Upper settings g = text_value (map to_ascii_uppercase (text_given 0 g))
-applied Lower settings g = text_value (map to_ascii_lowercase (text_given 0 g))
-applied Space settings g = text_value (replicate (count_at 0 g) 32)
-applied Replicate settings g = text_value (repeated (count_at 0 g) (text_given 0 g))
-applied At settings g = counted (place_number (first_place (text_given 0 g) (text_given 1 g)))
-applied Stuff settings g = text_value (stuffed (count_at 0 g) (count_at 1 g) (text_given 1 g) (text_given 0 g))
-applied Asc settings g = counted (first_byte (text_given 0 g))
-applied Chr settings g = text_value (byte_text (whole_given 0 g))
-applied Val settings g = Number (prefix_read (text_given 0 g))
-applied Str settings g = text_value (printed_in (min (count_at 1 g) 254) (min (count_at 2 g) 15) (number_given 0 g))
-applied IsAlpha settings g = Logical (first_is is_ascii_alphabetic (text_given 0 g))
-applied IsUpper settings g = Logical (first_is is_ascii_uppercase (text_given 0 g))
-applied IsLower settings g = Logical (first_is is_ascii_lowercase (text_given 0 g))
-applied Abs settings g = Number (absolute (number_given 0 g))
-applied Int settings g = Number (cut (number_given 0 g))
-applied Mod settings g = Number (modulus_of (number_given 0 g) (number_given 1 g))
-applied Round settings g = Number (rounded_to (whole_given 1 g) (number_given 0 g))
-applied Max settings g = Number (greater_of (number_given 0 g) (number_given 1 g))
-applied Min settings g = Number (lesser_of (number_given 0 g) (number_given 1 g))
-applied Ctod settings g = Date (date_read (text_given 0 g))
-applied Dtoc settings g = text_value (shown_day settings (date_given 0 g))
-applied Day settings g = counted (day_of (date_given 0 g))
-applied Month settings g = counted (month_of (date_given 0 g))
-applied Year settings g = counted (year_of (date_given 0 g))
-applied Dow settings g = counted (weekday_of (date_given 0 g))
-applied Cdow settings g = text_value (weekday_name_of (date_given 0 g))
-applied Cmonth settings g = text_value (month_name_of (date_given 0 g))
+applied (OfTwo fun) settings g = Number (of_two fun (number_given 0 g) (number_given 1 g))
+applied (Compares order) settings g = Logical (is_in_order order (compared (number_given 0 g) (number_given 1 g)))
+applied (ToNumber fun) settings g = Number (number_made fun g)
+applied (ToText fun) settings g = text_value (text_made fun settings g)
+applied (ToDate fun) settings g = Date (date_made fun g)
+applied (ToTruth fun) settings g = Logical (truth_made fun settings g)

@@ -1,16 +1,16 @@
 // The functions on their arguments.
 #![tactic(auto)]
 
-ghost use Rattle.std.specs.Prelude.{◌≡◌, ◌+◌, ◌≤◌, if◌then◌else◌, ◌∷◌, [], MatchOption};
+ghost use Rattle.std.specs.Prelude.{◌≡◌, ◌+◌, ◌≤◌, if◌then◌else◌, MatchOption};
 ghost use Rattle.fixed_num.specs.Arithmetic.{AreAlike};
 ghost use Rattle.xvalue.specs.declared.settings.Settings.{Settings as AnySettings};
 ghost use Rattle.xvalue.specs.Given.{given, two_numbers};
 ghost use Rattle.xvalue.specs.Functions.{applied, truth_given};
-ghost use Rattle.xvalue.specs.Signature.{takes_of, gives_of};
+ghost use Rattle.xvalue.specs.declared.fun.Arithmetic.TheVariants.{Add};
+ghost use Rattle.xvalue.specs.declared.fun.Fun.TheVariants.{OfTwo, Compares, ToNumber, ToText, ToDate, ToTruth};
 
 use crate::arguments::Arguments;
-use crate::fun::Fun;
-use crate::kind::Kind;
+use crate::fun::{Arithmetic, DateFun, Fun, NumberFun, NumberOrder, TextFun, TruthFun};
 use crate::settings::Settings;
 use crate::shown::shown_day;
 use crate::text::Text;
@@ -23,11 +23,21 @@ use fixed_num::{Num, without_blanks, without_last_blanks};
 pub fn apply(fun: Fun, settings: Settings, arguments: &Arguments<'_>) -> Value
     ensures { result ≡ applied fun settings (given arguments.now) }
 {
-    match fun.gives() {
-        Kind::Number => Value::Number(number_given(fun, arguments)),
-        Kind::Text => Value::Text(text_given(fun, settings, arguments)),
-        Kind::Date => Value::Date(date_given(fun, arguments)),
-        Kind::Logical => Value::Logical(truth_given(fun, settings, arguments)),
+    match fun {
+        Fun::OfTwo(fun) => Value::Number(number_of_two(
+            fun,
+            arguments.number(0),
+            arguments.number(1),
+        )),
+        Fun::Compares(order) => Value::Logical(truth_of_two(
+            order,
+            &arguments.number(0),
+            &arguments.number(1),
+        )),
+        Fun::ToNumber(fun) => Value::Number(number_given(fun, arguments)),
+        Fun::ToText(fun) => Value::Text(text_given(fun, settings, arguments)),
+        Fun::ToDate(fun) => Value::Date(date_given(fun, arguments)),
+        Fun::ToTruth(fun) => Value::Logical(truth_given(fun, settings, arguments)),
     }
 }
 
@@ -35,21 +45,18 @@ pub fn apply(fun: Fun, settings: Settings, arguments: &Arguments<'_>) -> Value
 /// arm alone is left.)
 #[inline(always)]
 #[tactic(auto, unfolding(crate::specs::Functions::applied))]
-pub fn number_of_two(fun: Fun, first: Num, second: Num) -> Num
-    requires takes { takes_of fun ≡ Kind.Number ∷ Kind.Number ∷ [] }
-    requires gives { gives_of fun ≡ Kind.Number }
-    ensures { (settings : AnySettings) → Value.Number result ≡ applied fun settings (two_numbers first second) }
+pub fn number_of_two(fun: Arithmetic, first: Num, second: Num) -> Num
+    ensures { (settings : AnySettings) → Value.Number result ≡ applied (OfTwo fun) settings (two_numbers first second) }
 {
     match fun {
-        Fun::Add => first.add(second),
-        Fun::Sub => first.sub(second),
-        Fun::Mul => first.mul(second),
-        Fun::Div => first.div(second),
-        Fun::Mod => first.modulo(second),
-        Fun::Round => first.round(second.whole()),
-        Fun::Max => first.max(second),
-        Fun::Min => first.min(second),
-        _ => unreachable!(),
+        Arithmetic::Add => first.add(second),
+        Arithmetic::Sub => first.sub(second),
+        Arithmetic::Mul => first.mul(second),
+        Arithmetic::Div => first.div(second),
+        Arithmetic::Mod => first.modulo(second),
+        Arithmetic::Round => first.round(second.whole()),
+        Arithmetic::Max => first.max(second),
+        Arithmetic::Min => first.min(second),
     }
 }
 
@@ -59,7 +66,8 @@ pub fn number_of_two(fun: Fun, first: Num, second: Num) -> Num
 #[tactic(auto, unfolding(crate::specs::Functions::applied))]
 pub fn sum_of_two(first: &Num, second: &Num) -> Option<Num>
     ensures { MatchOption result (¬ AreAlike first.now second.now) (λ sum. AreAlike first.now second.now
-        × ((settings : AnySettings) → Value.Number sum ≡ applied Fun.Add settings (two_numbers first.now second.now))) }
+        × ((settings : AnySettings)
+        → Value.Number sum ≡ applied (OfTwo Add) settings (two_numbers first.now second.now))) }
 {
     first.alike_sum(second)
 }
@@ -67,127 +75,110 @@ pub fn sum_of_two(first: &Num, second: &Num) -> Option<Num>
 /// The result of a function that compares two numbers.
 #[inline(always)]
 #[tactic(auto, unfolding(crate::specs::Functions::applied))]
-pub fn truth_of_two(fun: Fun, first: &Num, second: &Num) -> bool
-    requires takes { takes_of fun ≡ Kind.Number ∷ Kind.Number ∷ [] }
-    requires gives { gives_of fun ≡ Kind.Logical }
+pub fn truth_of_two(order: NumberOrder, first: &Num, second: &Num) -> bool
     ensures { (settings : AnySettings)
-        → Value.Logical result ≡ applied fun settings (two_numbers first.now second.now) }
+        → Value.Logical result ≡ applied (Compares order) settings (two_numbers first.now second.now) }
 {
-    let order = first.cmp(second);
-    match fun {
-        Fun::NumberEq => order.is_eq(),
-        Fun::NumberLess => order.is_lt(),
-        Fun::NumberGreater => order.is_gt(),
-        _ => unreachable!(),
+    let found = first.cmp(second);
+    match order {
+        NumberOrder::NumberEq => found.is_eq(),
+        NumberOrder::NumberLess => found.is_lt(),
+        NumberOrder::NumberGreater => found.is_gt(),
     }
 }
 
-/// The result of a function that gives a number. It takes no memory.
+/// The result of any other function that gives a number. It takes no memory.
 #[tactic(auto, unfolding(crate::specs::Functions::applied))]
-pub fn number_given(fun: Fun, arguments: &Arguments<'_>) -> Num
-    requires { gives_of fun ≡ Kind.Number }
-    ensures { (settings : AnySettings) → Value.Number result ≡ applied fun settings (given arguments.now) }
+pub fn number_given(fun: NumberFun, arguments: &Arguments<'_>) -> Num
+    ensures { (settings : AnySettings) → Value.Number result ≡ applied (ToNumber fun) settings (given arguments.now) }
 {
     match fun {
-        Fun::Add | Fun::Sub | Fun::Mul | Fun::Div | Fun::Mod | Fun::Round | Fun::Max | Fun::Min => {
-            number_of_two(fun, arguments.number(0), arguments.number(1))
-        }
-        Fun::Neg => arguments.number(0).neg(),
-        Fun::DateDiff => arguments.date(0).days_since(arguments.date(1)),
-        Fun::IifNumber => arguments.number(chosen(arguments, 0)),
-        Fun::Len => Num::from(arguments.text(0).len() as u32),
-        Fun::At => Num::from(texts::place_of(arguments.text(0), arguments.text(1)) as u32),
-        Fun::Asc => Num::from(u32::from(texts::first_byte(arguments.text(0)))),
-        Fun::Val => Num::parse_prefix(arguments.text(0)),
-        Fun::Abs => arguments.number(0).abs(),
-        Fun::Int => arguments.number(0).int(),
-        Fun::Day => Num::from(u32::from(arguments.date(0).day())),
-        Fun::Month => Num::from(u32::from(arguments.date(0).month())),
-        Fun::Year => Num::from(u32::from(arguments.date(0).year())),
-        Fun::Dow => Num::from(u32::from(arguments.date(0).weekday())),
-        _ => unreachable!(),
+        NumberFun::Neg => arguments.number(0).neg(),
+        NumberFun::DateDiff => arguments.date(0).days_since(arguments.date(1)),
+        NumberFun::IifNumber => arguments.number(chosen(arguments, 0)),
+        NumberFun::Len => Num::from(arguments.text(0).len() as u32),
+        NumberFun::At => Num::from(texts::place_of(arguments.text(0), arguments.text(1)) as u32),
+        NumberFun::Asc => Num::from(u32::from(texts::first_byte(arguments.text(0)))),
+        NumberFun::Val => Num::parse_prefix(arguments.text(0)),
+        NumberFun::Abs => arguments.number(0).abs(),
+        NumberFun::Int => arguments.number(0).int(),
+        NumberFun::Day => Num::from(u32::from(arguments.date(0).day())),
+        NumberFun::Month => Num::from(u32::from(arguments.date(0).month())),
+        NumberFun::Year => Num::from(u32::from(arguments.date(0).year())),
+        NumberFun::Dow => Num::from(u32::from(arguments.date(0).weekday())),
     }
 }
 
 /// The result of a function that gives a text, under the settings. It takes no memory.
 #[tactic(auto, unfolding(crate::specs::Functions::applied))]
-pub fn text_given(fun: Fun, settings: Settings, arguments: &Arguments<'_>) -> Text
-    requires { gives_of fun ≡ Kind.Text }
-    ensures { Value.Text result ≡ applied fun settings (given arguments.now) }
+pub fn text_given(fun: TextFun, settings: Settings, arguments: &Arguments<'_>) -> Text
+    ensures { Value.Text result ≡ applied (ToText fun) settings (given arguments.now) }
 {
     let text = arguments.text(0);
     match fun {
-        Fun::Join => texts::joined(text, arguments.text(1)),
-        Fun::JoinMoved => texts::joined_moved(text, arguments.text(1)),
-        Fun::IifText => texts::fitting(arguments.text(chosen(arguments, 0))),
-        Fun::Substr => texts::fitting(texts::part_from(
+        TextFun::Join => texts::joined(text, arguments.text(1)),
+        TextFun::JoinMoved => texts::joined_moved(text, arguments.text(1)),
+        TextFun::IifText => texts::fitting(arguments.text(chosen(arguments, 0))),
+        TextFun::Substr => texts::fitting(texts::part_from(
             text,
             arguments.count(0),
             arguments.count(1),
         )),
-        Fun::Left => texts::fitting(texts::front(text, arguments.count(0))),
-        Fun::Right => texts::fitting(texts::last_part(text, arguments.count(0))),
-        Fun::Trim => texts::fitting(without_last_blanks(text)),
-        Fun::Ltrim => texts::fitting(without_blanks(text)),
-        Fun::Upper => texts::upper(text),
-        Fun::Lower => texts::lower(text),
-        Fun::Space => texts::blanks(arguments.count(0)),
-        Fun::Replicate => texts::repeated(text, arguments.count(0)),
-        Fun::Stuff => texts::stuffed(
+        TextFun::Left => texts::fitting(texts::front(text, arguments.count(0))),
+        TextFun::Right => texts::fitting(texts::last_part(text, arguments.count(0))),
+        TextFun::Trim => texts::fitting(without_last_blanks(text)),
+        TextFun::Ltrim => texts::fitting(without_blanks(text)),
+        TextFun::Upper => texts::upper(text),
+        TextFun::Lower => texts::lower(text),
+        TextFun::Space => texts::blanks(arguments.count(0)),
+        TextFun::Replicate => texts::repeated(text, arguments.count(0)),
+        TextFun::Stuff => texts::stuffed(
             text,
             arguments.count(0),
             arguments.count(1),
             arguments.text(1),
         ),
-        Fun::Chr => texts::byte_text(arguments.number(0)),
-        Fun::Str => texts::printed(arguments.number(0), arguments.count(1), arguments.count(2)),
-        Fun::Dtoc => texts::fitting(shown_day(arguments.date(0), settings).as_slice()),
-        Fun::Cdow => texts::fitting(arguments.date(0).weekday_name()),
-        Fun::Cmonth => texts::fitting(arguments.date(0).month_name()),
-        _ => unreachable!(),
+        TextFun::Chr => texts::byte_text(arguments.number(0)),
+        TextFun::Str => texts::printed(arguments.number(0), arguments.count(1), arguments.count(2)),
+        TextFun::Dtoc => texts::fitting(shown_day(arguments.date(0), settings).as_slice()),
+        TextFun::Cdow => texts::fitting(arguments.date(0).weekday_name()),
+        TextFun::Cmonth => texts::fitting(arguments.date(0).month_name()),
     }
 }
 
 /// The result of a function that gives a date. It takes no memory.
 #[tactic(auto, unfolding(crate::specs::Functions::applied))]
-pub fn date_given(fun: Fun, arguments: &Arguments<'_>) -> Day
-    requires { gives_of fun ≡ Kind.Date }
-    ensures { (settings : AnySettings) → Value.Date result ≡ applied fun settings (given arguments.now) }
+pub fn date_given(fun: DateFun, arguments: &Arguments<'_>) -> Day
+    ensures { (settings : AnySettings) → Value.Date result ≡ applied (ToDate fun) settings (given arguments.now) }
 {
     match fun {
-        Fun::DateAdd => arguments.date(0).plus(arguments.number(0)),
-        Fun::DateSub => arguments.date(0).minus(arguments.number(0)),
-        Fun::IifDate => arguments.date(chosen(arguments, 0)),
-        Fun::Ctod => Day::read(arguments.text(0)),
-        _ => unreachable!(),
+        DateFun::DateAdd => arguments.date(0).plus(arguments.number(0)),
+        DateFun::DateSub => arguments.date(0).minus(arguments.number(0)),
+        DateFun::IifDate => arguments.date(chosen(arguments, 0)),
+        DateFun::Ctod => Day::read(arguments.text(0)),
     }
 }
 
-/// The result of a function that gives a truth value, under the settings. It takes no memory.
+/// The result of any other function that gives a truth value, under the settings. It takes no memory.
 #[tactic(auto, unfolding(crate::specs::Functions::applied))]
-pub fn truth_given(fun: Fun, settings: Settings, arguments: &Arguments<'_>) -> bool
-    requires { gives_of fun ≡ Kind.Logical }
-    ensures { Value.Logical result ≡ applied fun settings (given arguments.now) }
+pub fn truth_given(fun: TruthFun, settings: Settings, arguments: &Arguments<'_>) -> bool
+    ensures { Value.Logical result ≡ applied (ToTruth fun) settings (given arguments.now) }
 {
     match fun {
-        Fun::NumberEq | Fun::NumberLess | Fun::NumberGreater => {
-            truth_of_two(fun, &arguments.number(0), &arguments.number(1))
-        }
-        Fun::TextEq => texts::eq_text(arguments.text(0), arguments.text(1), settings.exact),
-        Fun::TextLess => texts::less_text(arguments.text(0), arguments.text(1)),
-        Fun::TextGreater => texts::less_text(arguments.text(1), arguments.text(0)),
-        Fun::DateEq => arguments.date(0).is(arguments.date(1)),
-        Fun::DateLess => arguments.date(0).is_before(arguments.date(1)),
-        Fun::DateGreater => arguments.date(1).is_before(arguments.date(0)),
-        Fun::Not => !arguments.truth(0),
-        Fun::And => arguments.truth(0) && arguments.truth(1),
-        Fun::Or => arguments.truth(0) || arguments.truth(1),
-        Fun::In => texts::first_place(arguments.text(0), arguments.text(1)).is_some(),
-        Fun::IifLogical => arguments.truth(chosen(arguments, 1)),
-        Fun::IsAlpha => texts::begins_with_letter(arguments.text(0)),
-        Fun::IsUpper => texts::begins_with_capital(arguments.text(0)),
-        Fun::IsLower => texts::begins_with_small(arguments.text(0)),
-        _ => unreachable!(),
+        TruthFun::TextEq => texts::eq_text(arguments.text(0), arguments.text(1), settings.exact),
+        TruthFun::TextLess => texts::less_text(arguments.text(0), arguments.text(1)),
+        TruthFun::TextGreater => texts::less_text(arguments.text(1), arguments.text(0)),
+        TruthFun::DateEq => arguments.date(0).is(arguments.date(1)),
+        TruthFun::DateLess => arguments.date(0).is_before(arguments.date(1)),
+        TruthFun::DateGreater => arguments.date(1).is_before(arguments.date(0)),
+        TruthFun::Not => !arguments.truth(0),
+        TruthFun::And => arguments.truth(0) && arguments.truth(1),
+        TruthFun::Or => arguments.truth(0) || arguments.truth(1),
+        TruthFun::In => texts::first_place(arguments.text(0), arguments.text(1)).is_some(),
+        TruthFun::IifLogical => arguments.truth(chosen(arguments, 1)),
+        TruthFun::IsAlpha => texts::begins_with_letter(arguments.text(0)),
+        TruthFun::IsUpper => texts::begins_with_capital(arguments.text(0)),
+        TruthFun::IsLower => texts::begins_with_small(arguments.text(0)),
     }
 }
 

@@ -1,7 +1,8 @@
 //! Values of command files: numbers, texts, dates and truth values, and the functions on them.
 //!
-//! A kind is a case of `Kind` and a value a case of `Value`; a function is a case of `Fun`, a line of its table in
-//! `specs/Signature.antt`, a line of its meaning in `specs/Functions.antt` and an arm of `apply`.
+//! A kind is a case of `Kind` and a value a case of `Value`. `Fun` has functions by what they give, a case for each. A
+//! function is a line of `FUNS`, a line of the table in `specs/Signature.antt`, a line of its meaning in
+//! `specs/Functions.antt`, and an arm in `apply`.
 #![tactic(auto)]
 
 mod answer;
@@ -18,7 +19,9 @@ mod value;
 
 pub use arguments::{Arguments, Gathered, MOST_ARGUMENTS};
 pub use calendar::Day;
-pub use fun::{FUNS, Fun, signature};
+pub use fun::{
+    Arithmetic, DateFun, FUNS, Fun, NumberFun, NumberOrder, TextFun, TruthFun, signature,
+};
 pub use kind::Kind;
 pub use settings::{Setting, Settings};
 pub use shown::{shown_day, shown_logical, shown_number};

@@ -1,7 +1,9 @@
 // Calls of functions.
 
 use crate::values::spelled::{first_wrong, result_of, result_of_values, value_of};
-use xvalue::{Fun, Kind, Settings, Text, Value, append, eq_text, less_text, signature};
+use xvalue::{
+    Arithmetic, Fun, Kind, Settings, Text, TextFun, Value, append, eq_text, less_text, signature,
+};
 
 /// Calls a row: `E` where EXACT is on, `C` where CENTURY is, else `-`; the number and the name of a function; and its
 /// calls with `;` between them, each its arguments with `|` between them, `=`, and its result as text.
@@ -119,7 +121,7 @@ fn appends_as_much_as_fits(rt: HostRuntime) {
     assert!(rt; text.as_slice() == b"ABC".as_slice());
     append(
         &mut text,
-        result_of(Settings::off(), Fun::Replicate, "x|254").as_slice(),
+        result_of(Settings::off(), Fun::ToText(TextFun::Replicate), "x|254").as_slice(),
     );
     assert!(rt; text.as_slice().len() == 254 && text.as_slice().ends_with(b"x"));
 }
@@ -131,7 +133,7 @@ fn is_cut_after(fun: Fun, values: &[Value], end: &str) -> bool {
 }
 
 fn repeated(spelled: &str) -> Value {
-    Value::Text(result_of(Settings::off(), Fun::Replicate, spelled))
+    Value::Text(result_of(Settings::off(), Fun::ToText(TextFun::Replicate), spelled))
 }
 
 fn number(spelled: &str) -> Value {
@@ -145,19 +147,49 @@ fn text(spelled: &str) -> Value {
 #[test]
 fn cuts_texts(rt: HostRuntime) {
     let moved = [repeated("A|250"), text("    ")];
-    let moved = Value::Text(result_of_values(Settings::off(), Fun::Join, &moved));
-    assert!(rt; is_cut_after(Fun::Replicate, &[text("ABC"), number("100")], "BCAB"));
-    assert!(rt; is_cut_after(Fun::Space, &[number("9999999999999999999")], "  "));
-    assert!(rt; is_cut_after(Fun::Join, &[repeated("ABC|100"), text("Z")], "BCAB"));
-    assert!(rt; is_cut_after(Fun::JoinMoved, &[moved, text("BCDEF")], "ABCDE"));
-    assert!(rt; is_cut_after(Fun::Str, &[number("7"), number("300"), number("0")], " 7"));
+    let moved = Value::Text(result_of_values(Settings::off(), Fun::ToText(TextFun::Join), &moved));
+    assert!(rt;
+        is_cut_after(
+            Fun::ToText(TextFun::Replicate),
+            &[text("ABC"), number("100")],
+            "BCAB"
+        )
+    );
+    assert!(rt;
+        is_cut_after(
+            Fun::ToText(TextFun::Space),
+            &[number("9999999999999999999")],
+            "  "
+        )
+    );
+    assert!(rt;
+        is_cut_after(
+            Fun::ToText(TextFun::Join),
+            &[repeated("ABC|100"), text("Z")],
+            "BCAB"
+        )
+    );
+    assert!(rt;
+        is_cut_after(
+            Fun::ToText(TextFun::JoinMoved),
+            &[moved, text("BCDEF")],
+            "ABCDE"
+        )
+    );
+    assert!(rt;
+        is_cut_after(
+            Fun::ToText(TextFun::Str),
+            &[number("7"), number("300"), number("0")],
+            " 7"
+        )
+    );
 }
 
 #[test]
 fn cuts_what_is_put_into_texts(rt: HostRuntime) {
     let values = [repeated("ABC|100"), number("254"), number("0"), text("XYZ")];
-    assert!(rt; is_cut_after(Fun::Stuff, &values, "BCAX"));
-    let byte = result_of(Settings::off(), Fun::Chr, "255.9");
+    assert!(rt; is_cut_after(Fun::ToText(TextFun::Stuff), &values, "BCAX"));
+    let byte = result_of(Settings::off(), Fun::ToText(TextFun::Chr), "255.9");
     assert_eq!(rt; byte.as_slice().first().copied(), Some(255));
 }
 
@@ -165,14 +197,14 @@ fn cuts_what_is_put_into_texts(rt: HostRuntime) {
 fn knows_its_functions(rt: HostRuntime) {
     for (number, fun) in [
         (0, None),
-        (4, Some(Fun::Div)),
-        (60, Some(Fun::Cmonth)),
+        (4, Some(Fun::OfTwo(Arithmetic::Div))),
+        (60, Some(Fun::ToText(TextFun::Cmonth))),
         (61, None),
     ] {
         assert!(rt; Fun::numbered(number) == fun);
     }
-    assert_eq!(rt; Fun::Stuff.number(), 39);
-    let (takes, gives) = signature(Fun::Stuff);
+    assert_eq!(rt; Fun::ToText(TextFun::Stuff).number(), 39);
+    let (takes, gives) = signature(Fun::ToText(TextFun::Stuff));
     let kinds = [Kind::Text, Kind::Number, Kind::Number, Kind::Text];
     assert!(rt; takes == kinds.as_slice() && gives == Kind::Text);
 }

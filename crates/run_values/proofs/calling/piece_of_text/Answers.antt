@@ -1,6 +1,8 @@
 use Rattle.std.proofs.Common.{[], ◌∷◌, length, refl, sym, ap, ◌∙◌, subst, arith}
 use Rattle.fixed_num.specs.Rounding.{whole_part}
 use Rattle.xvalue.specs.declared.fun.Fun.{Fun}
+use Rattle.xvalue.specs.declared.fun.Fun.TheVariants.{ToText}
+use Rattle.xvalue.specs.declared.fun.TextFun.{TextFun}
 use Rattle.xvalue.specs.declared.value.Value.TheVariants.{Number, Text}
 use Rattle.xvalue.specs.Functions.{applied}
 use Rattle.xvalue.specs.Texts.{bytes_cut_from, count_of}
@@ -8,26 +10,28 @@ use Rattle.run_values.specs.Calling.{IsGiven}
 use Rattle.run_values.proofs.TextCalls.{short_part, cut_shorter}
 use Rattle.run_values.proofs.calling.piece_of_text.Goals as goal
 
-pub returns-in-Substr-clause-short : goal.returns-in-Substr-clause-short
-returns-in-Substr-clause-short c = omega (
+pub returns-in-ToText-Substr-clause-short : goal.returns-in-ToText-Substr-clause-short
+returns-in-ToText-Substr-clause-short c = omega (
   arith,
   c.requires,
   ap length c.part_from.ensures,
-  cut_shorter c.count_of.result c.count_of-in-Substr.result c.args.text.now,
+  cut_shorter c.count_of.result c.count_of-in-ToText-Substr.result c.args.text.now,
 )
 
-pub returns-in-Substr-clause-given : goal.returns-in-Substr-clause-given
+pub returns-in-ToText-Substr-clause-given : goal.returns-in-ToText-Substr-clause-given
 unfolding applied
-returns-in-Substr-clause-given c = λ settings.
+returns-in-ToText-Substr-clause-given c = λ settings.
+    let is = c.in-ToText-Substr.is
+    ∙ ap (λ (f : TextFun). ToText f) (rw c.in-ToText-Substr.is at c.in-ToText-Substr.field-0-is) in
     subst (λ (f : Fun). IsGiven f settings
     (Text (record { items = c.args.text.now }) ∷ Number c.args.place ∷ Number c.args.count ∷ [])
-    (Text (record { items = c.part_from.result.now }))) (sym c.in-Substr.is)
+    (Text (record { items = c.part_from.result.now }))) (sym is)
     (record {
       many = refl;
       same = short_part _ _
           (c.part_from.ensures
-          ∙ ap (λ k. bytes_cut_from k c.count_of-in-Substr.result c.args.text.now) c.count_of.ensures
+          ∙ ap (λ k. bytes_cut_from k c.count_of-in-ToText-Substr.result c.args.text.now) c.count_of.ensures
           ∙ ap (λ k. bytes_cut_from (count_of (whole_part c.args.place)) k c.args.text.now)
-          c.count_of-in-Substr.ensures)
-          (returns-in-Substr-clause-short c);
+          c.count_of-in-ToText-Substr.ensures)
+          (returns-in-ToText-Substr-clause-short c);
     })
