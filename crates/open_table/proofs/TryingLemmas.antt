@@ -1,20 +1,16 @@
 -- Moves over lists that list the rows.
-use Rattle.std.proofs.Common.{◌≡◌, ℕ, zero, suc, ◌+◌, ◌-◌, ◌<◌, ◌≤◌, Bool, true, false, Option, Some, None, List, []}
-use Rattle.std.proofs.Common.{◌∷◌, ◌++◌, length, get_or, is_none, refl, sym, ap, ◌∙◌, subst, arith}
+use Rattle.std.proofs.Common.{◌≡◌, ℕ, zero, suc, ◌+◌, ◌-◌, ◌<◌, ◌≤◌, Bool, true, false, List, [], ◌∷◌, ◌++◌, length}
+use Rattle.std.proofs.Common.{get_or, refl, sym, ap, ◌∙◌, arith}
 use Rattle.std.specs.List.{Contains}
-use Rattle.std.specs.Prelude.{IfSome}
 use Rattle.std.proofs.Math.ListN.{get_or-eq_default}
 use Rattle.dbf_file.specs.Rows.{Row, row_at, no_row}
-use Rattle.dbf_file.specs.Tables.{StructureState}
 use Rattle.key_lists.specs.Pairs.{Pair}
 use Rattle.shape.specs.declared.parts.KeyPart.{KeyPart}
 use Rattle.shape.specs.Keys.{key_of, cased}
-use Rattle.row_keys.specs.Lists.{IndexState, IsExact, index_list, row_pair}
+use Rattle.row_keys.specs.Lists.{index_list, row_pair}
 use Rattle.row_keys.proofs.IndexLemmas.{ListLaw}
 use Rattle.row_moves.proofs.RecordOrder.{length-records}
 use Rattle.row_moves.specs.Orders.{records_from, record_order}
-use Rattle.open_table.specs.Slots.{SlotState, IsSlot, IsListed}
-use Rattle.open_table.proofs.SlotLemmas.{some_weaker}
 
 records_at : (n count k : ℕ) (d : Pair) → k < count → get_or (records_from n count) k d ≡ ([], n + k)
 records_at n zero k d lt = absurd (omega arith)
@@ -40,25 +36,6 @@ in_list law parts rows p there =
     let w = (law parts rows).only p.0 p.1 there in
     let number : p.1 ≡ w.0 + 1 = pair_number parts rows w.0 p w.2 in
     (omega arith, omega (arith, w.1))
-
--- what a slot that isn't stale lists
-pub slot_list : (s : StructureState) (rows : List Row) (slot : SlotState) → IsSlot s rows slot
-    → IfSome slot.index (λ x. x.pairs ≡ index_list slot.parts rows)
-slot_list s rows slot h = some_weaker (IsListed (IsExact s rows) slot.parts slot.text)
-    (λ x. x.pairs ≡ index_list slot.parts rows) (λ x l. l.exact.pairs ∙ ap (λ ps. index_list ps rows) l.parts)
-    slot.index h.listed
-
--- what holds of the list of the rows holds of the list of a slot
-pub at_listed : (M : List Pair → Type 0) (s : StructureState) (rows : List Row) (slot : SlotState) → IsSlot s rows slot
-    → M (index_list slot.parts rows) → IfSome slot.index (λ x. M x.pairs)
-at_listed M s rows slot h holds = some_weaker (λ x. x.pairs ≡ index_list slot.parts rows) (λ x. M x.pairs)
-    (λ x e. subst M (sym e) holds) slot.index (slot_list s rows slot h)
-
--- of a list that is there
-pub from_some : (P N : IndexState → Type 0) (M : Type 0) (a : Option IndexState) → is_none a ≡ false → IfSome a P
-    → IfSome a N → ((x : IndexState) → P x → N x → M) → M
-from_some P N M None f p n step = cc
-from_some P N M (Some x) f p n step = step x p n
 
 -- where there is no row there is no key
 pub no_key : (parts : List KeyPart) → key_of parts [] ≡ []

@@ -1,4 +1,5 @@
 pub mod Tried
+pub mod Asked
 pub mod Marks
 pub mod Slots
 pub mod Tables

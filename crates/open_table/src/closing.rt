@@ -16,8 +16,8 @@ ghost use Rattle.open_table.specs.Tried.{ShowsRows};
 use crate::keyed::{has_order, key_of_order};
 use crate::passes::first_of;
 use crate::row::Row;
-use crate::slot::Slot;
-use crate::trying::along;
+use crate::slot::{Asked, Slot};
+use crate::trying;
 use dbf_file::Table;
 use key_lists::KeyList;
 use key_lists::laws::puts_in_order;
@@ -70,7 +70,11 @@ fn judge_along<K: KeyList, F: Fn(&Row<'_>) -> bool>(
     if budget < base {
         return Err(Spent);
     }
-    match along(table, slots, order, None, RowMove::Top, see, budget - base) {
+    let asked = Asked::Move {
+        to: RowMove::Top,
+        pointer: None,
+    };
+    match trying::carry_out(table, slots, order, asked, see, budget - base) {
         Ok(landed) => Ok(dearer(landed, base)),
         Err(spent) => Err(spent),
     }

@@ -10,7 +10,8 @@ ghost use Rattle.shape.specs.Keys.{IsKey, key_of, key_length};
 ghost use Rattle.row_keys.specs.Lists.{index_list, row_pair, kept_rows, IsExact, IsIndexOf, IsAsBefore, HasAdded};
 ghost use Rattle.row_keys.specs.Lists.{HasFollowed};
 ghost use Rattle.row_moves.specs.Orders.{MayTry, Sees};
-ghost use Rattle.row_moves.specs.Moves.{IsMove, landing_of, sought};
+ghost use Rattle.row_moves.specs.Moves.{IsMove};
+ghost use Rattle.open_table.specs.Asked.{asked_landing};
 ghost use Rattle.open_table.specs.Slots.{IsSlot, GoesBy, HasRoomForPair, PutsBy, Prepares, committed, discarded};
 ghost use Rattle.open_table.specs.Slots.{left_if_open};
 ghost use Rattle.open_table.specs.Slots.{is_wanted as is_wanted_of};
@@ -96,6 +97,29 @@ pub(crate) fn slot_with<K: KeyList>(
     }
 }
 
+/// What is asked of an order.
+#[derive(Clone, Copy)]
+pub(crate) enum Asked<'a> {
+    /// A move, from a record or the end of file.
+    Move { to: RowMove, pointer: Option<u32> },
+    /// SEEK. It is asked of the order of an index alone.
+    Key { text: &'a [u8], exact: bool },
+}
+
+/// The key of a record, counted from 1, with its number. Where there is no such record the key is empty.
+#[tactic(auto, using(crate::proofs::TryingLemmas::no_record))]
+fn entry_at(key: &KeyParts, table: &Table, number: u32) -> Entry
+    requires { IsKey table.now.structure key.now }
+    ensures { result ≡ (key_of key.now (row_at table.now.rows (number - 1)).texts, number) }
+{
+    let r = (number as usize).saturating_sub(1);
+    if r >= table.rows() {
+        return Entry::new(&[], number);
+    }
+    let text = key.row_key(table, r);
+    Entry::new(text.as_slice(), number)
+}
+
 impl<K: KeyList> Slot<K> {
     /// A declared index with its list, or none where that is stale.
     pub(crate) fn new(
@@ -146,29 +170,6 @@ impl<K: KeyList> Slot<K> {
         ensures { result ≡ is_none self.now.index }
     {
         self.index.is_none()
-    }
-
-    /// The key of row `r`, counted from 0, with a number.
-    pub(crate) fn entry_of(&self, table: &Table, r: usize, number: u32) -> Entry
-        requires row { r < length table.now.rows }
-        requires key { IsKey table.now.structure self.now.parts }
-        ensures { result ≡ (key_of self.now.parts (row_at table.now.rows r).texts, number) }
-    {
-        let key = self.key.row_key(table, r);
-        Entry::new(key.as_slice(), number)
-    }
-
-    /// The key of a record, counted from 1, with its number. Where there is no such record the key is empty.
-    #[tactic(auto, using(crate::proofs::TryingLemmas::no_record))]
-    pub(crate) fn entry_at(&self, table: &Table, number: u32) -> Entry
-        requires { IsKey table.now.structure self.now.parts }
-        ensures { result ≡ (key_of self.now.parts (row_at table.now.rows (number - 1)).texts, number) }
-    {
-        let r = (number as usize).saturating_sub(1);
-        if r >= table.rows() {
-            return Entry::new(&[], number);
-        }
-        self.entry_of(table, r, number)
     }
 
     /// Makes room for one more pair, if the index is open.
@@ -227,43 +228,31 @@ impl<K: KeyList> Slot<K> {
         }
     }
 
-    /// A move in the order of the list, which isn't stale.
-    pub(crate) fn make_move<F: Fn(u32) -> bool>(
+    /// Makes the move or SEEK that is asked for in the order of the list, which isn't stale.
+    pub(crate) fn carry_out<F: Fn(u32) -> bool>(
         &mut self,
-        from: Option<Entry>,
-        asked: RowMove,
+        table: &Table,
+        asked: Asked<'_>,
         see: &F,
         budget: u64,
     ) -> Result<Landed, Spent>
+        requires exact { IsSlot table.now.structure table.now.rows self.old }
         requires fresh { is_none self.old.index ≡ false }
-        requires callable { IfSome self.old.index (λ x. MayTry F.pre see.now x.pairs) }
-        ensures lands { (shown : ℕ → Bool) → IfSome self.old.index (λ x. Sees F.post see.now x.pairs shown
-            → IsMove (landing_of shown asked from x.pairs) budget result) }
+        requires callable { MayTry F.pre see.now (index_list self.old.parts table.now.rows) }
+        ensures lands { (shown : ℕ → Bool) → Sees F.post see.now (index_list self.old.parts table.now.rows) shown
+            → IsMove (asked_landing shown asked.entry (λ n. key_of self.old.parts (row_at table.now.rows (n - 1)).texts)
+            (index_list self.old.parts table.now.rows)) budget result }
         ensures same { self.new ≡ self.old }
     {
-        match &mut self.index {
-            Some(index) => index.make_move(from, asked, see, budget),
-            None => unreachable!(),
-        }
-    }
-
-    /// SEEK in the list, which isn't stale.
-    pub(crate) fn seek<F: Fn(u32) -> bool>(
-        &mut self,
-        text: &[u8],
-        exact: bool,
-        see: &F,
-        budget: u64,
-    ) -> Result<Landed, Spent>
-        requires fresh { is_none self.old.index ≡ false }
-        requires callable { IfSome self.old.index (λ x. MayTry F.pre see.now x.pairs) }
-        ensures lands { (shown : ℕ → Bool) → IfSome self.old.index (λ x. Sees F.post see.now x.pairs shown
-            → IsMove (sought shown exact text.now x.pairs) budget result) }
-        ensures same { self.new ≡ self.old }
-    {
-        match &mut self.index {
-            Some(index) => index.seek(text, exact, see, budget),
-            None => unreachable!(),
+        let Some(index) = &mut self.index else {
+            unreachable!()
+        };
+        match asked {
+            Asked::Move { to, pointer } => {
+                let from = pointer.map(|number| entry_at(&self.key, table, number));
+                index.make_move(from, to, see, budget)
+            }
+            Asked::Key { text, exact } => index.seek(text, exact, see, budget),
         }
     }
 

@@ -22,7 +22,7 @@ use crate::keyed::{has_fresh, has_slot, keys_at, stale_in};
 use crate::passes::count_kept;
 use crate::refused::Refused;
 use crate::row::Row;
-use crate::slot::{Slot, slot_with};
+use crate::slot::{Asked, Slot, slot_with};
 use crate::{changes, closing, trying};
 use arrayvec::ArrayVec;
 use dbf_file::Table;
@@ -102,15 +102,8 @@ impl<K: KeyList> IndexedTable<K> {
             budget result }
         ensures same { self.new ≡ self.old }
     {
-        trying::along(
-            &self.table,
-            &mut self.slots,
-            order,
-            pointer,
-            asked,
-            see,
-            budget,
-        )
+        let asked = Asked::Move { to: asked, pointer };
+        trying::carry_out(&self.table, &mut self.slots, order, asked, see, budget)
     }
 
     /// SEEK in the index of this number.
@@ -128,15 +121,9 @@ impl<K: KeyList> IndexedTable<K> {
             → IsMove (sought shown exact text.now (order_pairs (Some number) self.old)) budget result }
         ensures same { self.new ≡ self.old }
     {
-        trying::seek(
-            &self.table,
-            &mut self.slots,
-            number,
-            text,
-            exact,
-            see,
-            budget,
-        )
+        let order = Some(number);
+        let asked = Asked::Key { text, exact };
+        trying::carry_out(&self.table, &mut self.slots, order, asked, see, budget)
     }
 
     /// Adds a blank row, which each open index follows; the others go stale. Where memory is missing, all is as it was.

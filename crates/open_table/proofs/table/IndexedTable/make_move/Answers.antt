@@ -9,5 +9,5 @@ pub returns-clause-lands : goal.returns-clause-lands
 returns-clause-lands g c = λ shown.
     subst (λ (t : IndexedState). ShowsRows (FnReturnsAt g.F.Fn) c.args.see.now t.structure t.rows shown
     → IsMove (landing_of shown c.args.asked (pair_at c.args.order t c.args.pointer) (order_pairs c.args.order t))
-    c.args.budget c.along.result) c.self.view_is
-    (c.along.ensures.lands shown)
+    c.args.budget c.carry_out.result) c.self.view_is
+    (c.carry_out.ensures.lands shown)

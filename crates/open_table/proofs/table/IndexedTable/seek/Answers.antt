@@ -9,5 +9,5 @@ pub returns-clause-lands : goal.returns-clause-lands
 returns-clause-lands g c = λ shown.
     subst (λ (t : IndexedState). ShowsRows (FnReturnsAt g.F.Fn) c.args.see.now t.structure t.rows shown
     → IsMove (sought shown c.args.exact c.args.text.now (order_pairs (Some c.args.number) t)) c.args.budget
-    c.seek.result) c.self.view_is
-    (c.seek.ensures.lands shown)
+    c.carry_out.result) c.self.view_is
+    (c.carry_out.ensures.lands shown)
