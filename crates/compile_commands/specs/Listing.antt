@@ -2,13 +2,12 @@
 use Rattle.std.specs.Prelude.{◌≡◌, ℕ, suc, List, [], ◌∷◌, ◌++◌, map, Option, Some, None}
 use Rattle.code_items.specs.declared.code.Code.{Code}
 use Rattle.code_rules.specs.Rules.{Accepted}
-use Rattle.file_access.specs.Holding.{Holds}
+use Rattle.file_access.specs.Holding.{Holds, IsTooLong}
 use Rattle.prg_code.specs.declared.fault.CompileFault.{CompileFault}
 use Rattle.prg_expr.specs.declared.fault.ParseFault.{ParseFault}
 use Rattle.prg_parser.specs.Listing.{all_faults}
 use Rattle.prg_parser.specs.Marks.{marks}
 use Rattle.shape.specs.declared.whole.Shape.{Shape}
-use Rattle.shape_files.specs.Refusals.{IsTooLong}
 use Rattle.shape_files.specs.Shapes.{IsDeclared}
 use Rattle.compile_commands.specs.Compiling.{AreRead, name_at}
 use Rattle.compile_commands.specs.declared.listing.FileFault.{FileFault}

@@ -1,10 +1,10 @@
 -- Why files aren't compiled.
 use Rattle.std.specs.Prelude.{◌≡◌, ℕ, ◌<◌, List, [], Option, Some, None, length}
-use Rattle.file_access.specs.Holding.{Holds, Rose}
+use Rattle.file_access.specs.Holding.{Holds, IsTooLong, Rose}
 use Rattle.prg_expr.specs.declared.fault.ParseFaultKind.{ParseFaultKind}
 use Rattle.prg_parser.specs.Marks.{marks}
 use Rattle.prg_parser.specs.Verdict.{verdict}
-use Rattle.shape_files.specs.Refusals.{IsTooLong, ShapeRefusalIs}
+use Rattle.shape_files.specs.Refusals.{ShapeRefusalIs}
 use Rattle.compile_commands.specs.declared.refusal.CompileFilesRefusal.{CompileFilesRefusal}
 use Rattle.compile_commands.specs.declared.refusal.CompileFilesRefusal.TheVariants.{Declarations, Source, SourceDisk}
 use Rattle.compile_commands.specs.declared.refusal.CompileFilesRefusal.TheVariants.{CodeDisk, Memory}

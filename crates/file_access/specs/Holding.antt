@@ -1,5 +1,5 @@
 -- What files hold, and failures of their device.
-use Rattle.std.specs.Prelude.{◌≡◌, ◌≢◌, ◌<◌, ◌-◌, ◌^◌, ◌⊎◌, ◌↔◌, ℕ, List, Option, Some}
+use Rattle.std.specs.Prelude.{◌≡◌, ◌≢◌, ◌<◌, ◌-◌, ◌^◌, ◌⊎◌, ◌↔◌, ℕ, List, Option, Some, length}
 
 -- the count of failures rose, or was at its greatest
 abbrev pub Rose : ℕ → ℕ → Type 0
@@ -21,3 +21,9 @@ pub record IsReplaced (before : Holds) (name bytes : List ℕ) (after : Holds) :
 -- each name holds one thing alone
 abbrev pub HoldsOneThing : Holds → Type 0
 HoldsOneThing holds = (name : List ℕ) (one other : Option (List ℕ)) → holds name one → holds name other → one ≡ other
+
+-- a file of more than 64 MiB
+pub record IsTooLong (holds : Option (List ℕ) → Type 0) : Type 0 where
+  pub bytes : List ℕ
+  pub held : holds (Some bytes)
+  pub long : 67108864 < length bytes

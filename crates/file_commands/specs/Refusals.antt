@@ -12,14 +12,9 @@ use Rattle.file_commands.specs.declared.refusal.Refusal.{Refusal}
 use Rattle.file_commands.specs.declared.refusal.Refusal.TheVariants.{Refused, Disk, Memory}
 use Rattle.file_commands.specs.declared.status.Status.{Status}
 use Rattle.file_commands.specs.declared.status.Status.TheVariants as status
-use Rattle.file_access.specs.Holding.{Rose}
+use Rattle.file_access.specs.Holding.{IsTooLong, Rose}
 
--- a file longer than 64 MiB, and one that is no code file by this fault
-pub record IsTooLong (holds : Option (List ℕ) → Type 0) : Type 0 where
-  pub bytes : List ℕ
-  pub held : holds (Some bytes)
-  pub long : 67108864 < length bytes
-
+-- a file that is no code file by this fault
 pub record HasCodeFault (holds : Option (List ℕ) → Type 0) (fault : CodeFault) : Type 0 where
   pub bytes : List ℕ
   pub held : holds (Some bytes)

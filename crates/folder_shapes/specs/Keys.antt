@@ -1,16 +1,14 @@
 -- Fields that make the key of an index. The bytes 32 and 9 are blanks, 43 is a plus sign.
-use Rattle.std.specs.Prelude.{ℕ, ◌-◌, ◌==◌, ◌&&◌, ◌||◌, nat_le, Bool, true, false, not, List, [], ◌∷◌, Option}
+use Rattle.std.specs.Prelude.{ℕ, ◌-◌, ◌==◌, ◌&&◌, nat_le, Bool, true, false, not, List, [], ◌∷◌, Option}
 use Rattle.std.specs.Prelude.{Some, None, length, map, filter, take, drop, slice_range, codes, position, option_map}
 use Rattle.std.specs.Prelude.{if◌then◌else◌}
 use Rattle.std.specs.Char.{to_ascii_uppercase}
 use Rattle.std.specs.List.{slice_split}
 use Rattle.std.specs.Str.{bytes_eq, str_eq_ignore_ascii_case}
 use Rattle.dbf_file.specs.declared.field.Field.{Field}
+use Rattle.prg_expr.specs.Lexicon.{is_blank_or_tab}
 use Rattle.shape.specs.declared.parts.KeyPart.{KeyPart}
 use Rattle.shape.specs.Keys.{is_key, key_bytes}
-
-abbrev pub is_blank_or_tab : ℕ → Bool
-is_blank_or_tab byte = byte == 32 || byte == 9
 
 -- a key's text in capitals and without blanks
 unfoldable pub plain_text : List ℕ → List ℕ

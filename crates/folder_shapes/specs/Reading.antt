@@ -5,7 +5,7 @@ use Rattle.dbf_file.specs.declared.fault.DbfFault.TheVariants as table_fault
 use Rattle.dbf_file.specs.declared.stamp.Stamp.{Stamp}
 use Rattle.dbf_file.specs.Faults.{first_fault}
 use Rattle.dbf_file.specs.Tables.{DbfText}
-use Rattle.file_access.specs.Holding.{Holds}
+use Rattle.file_access.specs.Holding.{Holds, IsTooLong}
 use Rattle.key_lists.specs.KeyForm.{KeyForm}
 use Rattle.key_lists.specs.Pairs.{Pair}
 use Rattle.ndx_tree.specs.IndexFile.{IsIndexFile}
@@ -29,16 +29,11 @@ pub record IsReadAs (holds : Holds) (name bytes : List ℕ) : Type 0 where
   pub held : holds name (Some bytes)
   pub short : length bytes ≤ 67108864
 
-pub record IsTooLong (holds : Holds) (name : List ℕ) : Type 0 where
-  pub bytes : List ℕ
-  pub held : holds name (Some bytes)
-  pub long : 67108864 < length bytes
-
 -- Why no bytes are read: the name is no text, there is no such file, it is too long, or the device failed.
 abbrev pub NotRead : Holds → List ℕ → Note → Type 0
 NotRead holds name note.NoText = IsUtf8 name → ⊥
 NotRead holds name note.Gone = holds name None
-NotRead holds name note.TooLong = IsTooLong holds name
+NotRead holds name note.TooLong = IsTooLong (holds name)
 NotRead holds name note.Unreadable = Unit {0}
 NotRead holds name _ = ⊥
 

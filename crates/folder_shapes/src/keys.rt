@@ -4,13 +4,14 @@ ghost use Rattle.std.specs.Prelude.{◌≡◌, ◌<◌, ◌≤◌, ◌∷◌, le
 ghost use Rattle.std.specs.List.{slice_split, position_or_len};
 ghost use Rattle.std.specs.Option.{option_copied};
 ghost use Rattle.folder_shapes.specs.Keys as spec;
+ghost use Rattle.prg_expr.specs.Lexicon.{is_blank_or_tab};
 
 use dbf_file::Field;
 use shape::{KeyPart, KeyParts};
 use std::alloc::{AllocError, Global};
 
 fn is_blank(byte: u8) -> bool
-    ensures { result ≡ spec.is_blank_or_tab byte }
+    ensures { result ≡ is_blank_or_tab byte }
 {
     byte == b' ' || byte == b'\t'
 }

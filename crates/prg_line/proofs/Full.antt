@@ -9,7 +9,8 @@ use Rattle.prg_expr.specs.Word as word
 use Rattle.prg_expr.specs.declared.fault.ParseFaultKind.{ParseFaultKind}
 use Rattle.prg_expr.specs.declared.fault.ParseFaultKind.TheVariants as kind
 use Rattle.prg_line.specs.Forms.{At, at, FormReader, WordTaken, on_taken, takes, takes_in, is_at, is_at_end, is_nil}
-use Rattle.prg_line.specs.Forms.{is_word_in, clause, unexpected, ◌>>=◌}
+use Rattle.prg_line.specs.Forms.{is_word_in, clause, unexpected}
+use Rattle.prg_expr.specs.Reading.{◌>>=◌}
 use Rattle.prg_line.specs.Commands.{Phrase, Is, Then, Key, MarkThen, Either, But, Where}
 use Rattle.prg_line.proofs.Sound.{ok, fine, failed, taken}
 

@@ -7,7 +7,7 @@ use Rattle.std.proofs.lemmas.List.{length-append}
 use Rattle.fixed_num.specs.Number.{Number as Decimal}
 use Rattle.prg_expr.specs.declared.tree.BinaryOperator.TheVariants.{Equal}
 use Rattle.prg_expr.specs.Grammar.{Spells, Free}
-use Rattle.prg_expr.specs.Reading.{front, reader, stage, chain, comparison_read, prefixes, operand, wrong_word}
+use Rattle.prg_expr.specs.Reading.{front, reader, stage, chain, comparison_read, prefixes, operand, wrong_word, ◌>>=◌}
 use Rattle.prg_expr.specs.Tree.{Tree}
 use Rattle.prg_expr.specs.Word.{Word}
 use Rattle.prg_expr.specs.Word as word
@@ -17,7 +17,7 @@ use Rattle.prg_line.specs.Act.{Act, Letters}
 use Rattle.prg_line.specs.Act as act
 use Rattle.prg_line.specs.Forms as f
 use Rattle.prg_line.specs.Forms.{At, at, FormReader, WordTaken, on_taken, unexpected, is_at, is_at_end, is_nil}
-use Rattle.prg_line.specs.Forms.{is_word_in, ◌>>=◌}
+use Rattle.prg_line.specs.Forms.{is_word_in}
 use Rattle.prg_line.specs.Commands as c
 use Rattle.prg_line.specs.Commands.{Phrase, Is, Then, Key, MarkThen, But, Where, Either, Name, Whole, Several}
 use Rattle.prg_line.specs.Commands.{SelectNumber}

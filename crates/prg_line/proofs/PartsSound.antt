@@ -8,7 +8,7 @@ use Rattle.fixed_num.specs.Number.{Number as Decimal}
 use Rattle.prg_expr.specs.declared.tree.BinaryOperator.TheVariants.{Or, And, Equal, NotEqual, Less, Greater, AtMost}
 use Rattle.prg_expr.specs.declared.tree.BinaryOperator.TheVariants.{AtLeast, Contains, Plus, Minus, Times, Over}
 use Rattle.prg_expr.specs.Grammar.{Spells}
-use Rattle.prg_expr.specs.Reading.{front}
+use Rattle.prg_expr.specs.Reading.{front, ◌>>=◌}
 use Rattle.prg_expr.specs.Spelling.{InFront}
 use Rattle.prg_expr.specs.Tree.{Tree}
 use Rattle.prg_expr.specs.Word.{Word}
@@ -18,7 +18,7 @@ use Rattle.prg_expr.specs.declared.fault.ParseFaultKind.TheVariants as kind
 use Rattle.prg_line.specs.Act.{Act, Letters}
 use Rattle.prg_line.specs.Act as act
 use Rattle.prg_line.specs.Forms as f
-use Rattle.prg_line.specs.Forms.{At, at, FormReader, on_taken, unexpected, is_at, is_at_end, is_word_in, ◌>>=◌}
+use Rattle.prg_line.specs.Forms.{At, at, FormReader, on_taken, unexpected, is_at, is_at_end, is_word_in}
 use Rattle.prg_line.specs.Commands as c
 use Rattle.prg_line.specs.Commands.{Phrase, Is, MarkThen, But, Either, Name, Whole, Several, SelectNumber}
 use Rattle.prg_line.proofs.Sound.{Sound, Front, ok, fine, failed, taken, not_ok, ok_same, bind_ok, same_said}

@@ -7,7 +7,8 @@ use Rattle.prg_expr.specs.Word.{Word}
 use Rattle.prg_expr.specs.Word as word
 use Rattle.prg_expr.specs.declared.fault.ParseFaultKind.{ParseFaultKind}
 use Rattle.prg_line.specs.Forms.{At, at, FormReader, WordTaken, on_taken, takes, takes_in, is_word_in, clause}
-use Rattle.prg_line.specs.Forms.{unexpected, ◌>>=◌}
+use Rattle.prg_line.specs.Forms.{unexpected}
+use Rattle.prg_expr.specs.Reading.{◌>>=◌}
 use Rattle.prg_line.specs.Commands.{Phrase, Is, Then, Key, MarkThen, Either, But, Where}
 
 -- words in front of a rest that are as they have to be

@@ -4,7 +4,7 @@ use Rattle.std.specs.Prelude.{nat_lt, nat_le, Option, Some, None, Result, Ok, Er
 use Rattle.fixed_num.specs.Number.{Number as Decimal, asterisk, finite}
 use Rattle.prg_expr.specs.declared.tree.BinaryOperator.TheVariants.{Equal}
 use Rattle.prg_expr.specs.Functions.{is_cut}
-use Rattle.prg_expr.specs.Reading.{front}
+use Rattle.prg_expr.specs.Reading.{front, ◌>>=◌}
 use Rattle.prg_expr.specs.Tree.{Tree}
 use Rattle.prg_expr.specs.Word.{Word}
 use Rattle.prg_expr.specs.Word as word
@@ -33,11 +33,6 @@ FormRead A = Result (A × At) ParseFaultKind
 
 abbrev pub FormReader : Type 0 → Type 0
 FormReader A = At → FormRead A
-
-infixl 10 ◌>>=◌
-abbrev pub ◌>>=◌ : {A B : Type 0} → Result A ParseFaultKind → (A → Result B ParseFaultKind) → Result B ParseFaultKind
-(Ok x) >>= f = f x
-(Err e) >>= f = Err e
 
 abbrev pub is_nil : List Word → Bool
 is_nil [] = true

@@ -1,16 +1,14 @@
 -- The lines of a command file, and how they are joined.
 
-use Rattle.std.specs.Prelude.{ℕ, ◌+◌, ◌==◌, ◌||◌, not, Bool, List, [], ◌∷◌, ◌++◌, take, reverse, Option, Some}
+use Rattle.std.specs.Prelude.{ℕ, ◌+◌, ◌==◌, not, Bool, List, [], ◌∷◌, ◌++◌, take, reverse, Option, Some}
 use Rattle.std.specs.Prelude.{None, if◌then◌else◌}
 use Rattle.std.specs.List.{prefix_len}
+use Rattle.prg_expr.specs.Lexicon.{is_blank_or_tab}
 use Rattle.text_lines.specs.Lines.{lines}
 
 -- hex 1A ends the file: the bytes before the first one
 abbrev pub before_end : List ℕ → List ℕ
 before_end bytes = take (prefix_len (λ b. not (b == 26)) bytes) bytes
-
-abbrev pub is_blank_or_tab : ℕ → Bool
-is_blank_or_tab b = b == 32 || b == 9
 
 -- a text without the blanks and tabs in front
 unfoldable pub without_indent : List ℕ → List ℕ

@@ -5,7 +5,7 @@ use Rattle.std.specs.Str.{IsUtf8}
 use Rattle.dbf_file.specs.declared.stamp.Stamp.{Stamp}
 use Rattle.dbf_file.specs.Rows.{Row}
 use Rattle.dbf_file.specs.Tables.{StructureState, DbfText}
-use Rattle.file_access.specs.Holding.{Holds, Rose}
+use Rattle.file_access.specs.Holding.{Holds, IsTooLong, Rose}
 use Rattle.shape.specs.declared.indexes.IndexShape.{IndexShape}
 use Rattle.shape.specs.declared.tables.TableShape.{TableShape}
 use Rattle.shape.specs.declared.whole.Shape.{Shape}
@@ -23,12 +23,6 @@ use Rattle.shape_files.specs.declared.refusal.ShapeRefusal.TheVariants.{Refused,
 use Rattle.shape_files.specs.Lines.{Said, Nothing, Table, Index, Other, said_in_line}
 use Rattle.shape_files.specs.Shapes.{Declare, HasFields, IsFaultyKey, SaysIndex, file_name, is_new_index_name}
 use Rattle.shape_files.specs.Shapes.{is_new_table_name, is_table_named, no_shape}
-
--- a file longer than 64 MiB
-pub record IsTooLong (holds : Option (List ℕ) → Type 0) : Type 0 where
-  pub bytes : List ℕ
-  pub held : holds (Some bytes)
-  pub long : 67108864 < length bytes
 
 -- no table of at most a million rows stands in the bytes
 abbrev pub HoldsNoTable : List ℕ → Type 0
