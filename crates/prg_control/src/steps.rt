@@ -3,7 +3,7 @@
 ghost use Rattle.std.specs.Prelude.{◌≡◌, ◌<◌, ◌^◌, [], ◌∷◌, ◌++◌, true, false, IfSome, IsOk, OnOk};
 ghost use Rattle.prg_code.specs.declared.block.Draft.TheVariants as draft;
 ghost use Rattle.prg_code.specs.declared.work.Output.{Output as AnyOutput};
-ghost use Rattle.prg_code.specs.Growth.{OutputGrows, drafts_of};
+ghost use Rattle.prg_code.specs.Growth.{OutputGrows, WorkGrows, drafts_of};
 ghost use Rattle.prg_writer.specs.Writing.{IsBegunBehind};
 
 use prg_code::CompileRefusal;
@@ -81,6 +81,7 @@ fn put_true_for(
 /// A label that has no place yet.
 pub fn new_label(w: &mut Writer, line: usize) -> Result<usize, CompileRefusal>
     ensures same { w.new.out ≡ w.old.out }
+    ensures grown { WorkGrows w.old.work w.new.work }
 {
     let result = w.work.block.new_label();
     w.told(line, result)
@@ -89,6 +90,7 @@ pub fn new_label(w: &mut Writer, line: usize) -> Result<usize, CompileRefusal>
 /// The label stands here. Merge where different work areas are selected on the ways that meet here.
 pub fn place(w: &mut Writer, line: usize, label: usize) -> Result<(), CompileRefusal>
     ensures same { w.new.out ≡ w.old.out }
+    ensures grown { WorkGrows w.old.work w.new.work }
 {
     w.work.block.line = line;
     let result = w.work.block.place(label);
@@ -99,6 +101,7 @@ pub fn place(w: &mut Writer, line: usize, label: usize) -> Result<(), CompileRef
 /// A JUMP to the label, where this is reached.
 pub fn jump(w: &mut Writer, line: usize, label: usize) -> Result<(), CompileRefusal>
     ensures same { w.new.out ≡ w.old.out }
+    ensures grown { WorkGrows w.old.work w.new.work }
     ensures put { OnOk result (label < 2 ^ 32 → w.old.work.block.reached ≡ true
         → drafts_of w.new.work.block ≡ drafts_of w.old.work.block ++ draft.Jump label ∷ []) }
     // Where the place isn't reached, no jump is written.

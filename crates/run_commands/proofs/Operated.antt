@@ -20,7 +20,7 @@ use Rattle.run_commands.specs.declared.machines.Run.{Run as AnyRun}
 use Rattle.run_commands.specs.declared.rehearsing.Compared.{Compared}
 use Rattle.run_commands.specs.declared.rehearsing.Rehearsal.{Rehearsal}
 use Rattle.run_commands.specs.declared.running.Report.{Report}
-use Rattle.run_commands.specs.Operating.{IsWith, SoundOver, IfOfRun}
+use Rattle.run_commands.specs.Operating.{IsWith, SoundOver, IfOfRun, IfOfTalk}
 use Rattle.run_commands.specs.Parts.{IsOfTables, CodeRefused, SavedAll, SavedSome, Stopped, CodeStopped}
 use Rattle.run_commands.specs.Rehearsals.{IsRehearsed, IsToldAs, LeavesTables}
 use Rattle.run_commands.specs.Reports.{CodeRan, HasRun, IsTold, IsTested, IsSavedRun, RefusedBefore, SavingStopped}
@@ -306,3 +306,12 @@ pub rehearsal_over : (a b : Holds) → SameFiles a b → (job : Job) (typed : Li
 rehearsal_over a b same job typed code file (Ok told) h =
     λ whole w. rehearsed a b same whole code (file_for a job whole typed code w file) (Ok told) (h whole w)
 rehearsal_over a b same job typed code file (Err refusal) h = h
+
+-- ---- a conversation that began
+
+pub of_talk : {A : Type 0} (says : RunRefusal → Type 0) (handed : List ℕ) (most : ℕ) (result : Result A OperateRefusal)
+    → IfErr result (IfOfRun says) → IfErr result (IfOfTalk says handed most)
+of_talk says handed most (Ok told) h = h
+of_talk says handed most (Err (Run refusal)) h = h
+of_talk says handed most (Err (Broke why)) h = h
+of_talk says handed most (Err Handed) h = absurd h

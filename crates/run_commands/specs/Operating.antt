@@ -1,5 +1,5 @@
 -- Runs whose lines an operator types, from files to files.
-use Rattle.std.specs.Prelude.{◌≡◌, ℕ, List, [], ⊤, Result, Ok, Err}
+use Rattle.std.specs.Prelude.{◌≡◌, ◌≤◌, ℕ, true, List, [], length, ⊤, Result, Ok, Err}
 use Rattle.code_items.specs.declared.code.Code.{Code}
 use Rattle.file_access.specs.Holding.{Holds, SameFiles}
 use Rattle.operating.specs.Answers.{BrokeOff}
@@ -11,6 +11,7 @@ use Rattle.run_commands.specs.declared.refusal.RunRefusal.{RunRefusal}
 use Rattle.run_commands.specs.Reports.{IsRefused}
 use Rattle.run_commands.specs.Runs.{IsSoundRun}
 use Rattle.run_steps.specs.declared.ending.Outcome.{Outcome}
+use Rattle.text_lines.specs.Lines.{is_ended}
 use Rattle.work_area.specs.Areas.{StoreState}
 
 -- the same job, whose input is this text
@@ -33,11 +34,21 @@ OperationRefused before after job broke (Run refusal) rows = IsRefused before af
 OperationRefused before after job broke (Broke why) rows = SameFiles before after × (rows ≡ [])
 OperationRefused before after job broke Handed rows = SameFiles before after × (rows ≡ [])
 
--- a refusal of the run, if it is one
+-- a refusal of the run, if it is one, where the lines that the journal held are a beginning
 abbrev pub IfOfRun : (RunRefusal → Type 0) → OperateRefusal → Type 0
 IfOfRun says (Run refusal) = says refusal
 IfOfRun says (Broke why) = ⊤
-IfOfRun says Handed = ⊤
+IfOfRun says Handed = ⊥
+
+-- no conversation begins with these bytes: they aren't whole lines, or are more than so many
+abbrev pub IsNoBeginning : List ℕ → ℕ → Type 0
+IsNoBeginning handed most = ¬ ((is_ended handed ≡ true) × (length handed ≤ most))
+
+-- a refusal of the run, if it is one; that of the lines which the journal held comes with such lines alone
+abbrev pub IfOfTalk : (RunRefusal → Type 0) → List ℕ → ℕ → OperateRefusal → Type 0
+IfOfTalk says handed most (Run refusal) = says refusal
+IfOfTalk says handed most (Broke why) = ⊤
+IfOfTalk says handed most Handed = IsNoBeginning handed most
 
 -- the same result, its refusal as that of a run
 abbrev pub SameResult : Result Ended RunRefusal → Result Ended OperateRefusal → Type 0

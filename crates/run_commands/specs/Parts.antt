@@ -57,7 +57,7 @@ pub record SavedAll (before after : Holds) (job : Job) (shape : Shape) (tables :
   pub saved : AreSaved shape tables stamp (length (files_of shape)) before after
 
 -- saving them stopped
-pub record SavingStopped (before after : Holds) (broke : Type 0) (job : Job) (shape : Shape) (tables : StoreState)
+pub record SaveBroke (before after : Holds) (broke : Type 0) (job : Job) (shape : Shape) (tables : StoreState)
     (refusal : FilesRefusal) : Type 0 where
   pub stamp : Stamp
   pub stamped : stamp_of job.day ≡ Some stamp
@@ -65,7 +65,7 @@ pub record SavingStopped (before after : Holds) (broke : Type 0) (job : Job) (sh
 
 abbrev pub SavedSome : Holds → Holds → Type 0 → Job → Shape → StoreState → RunRefusal → Type 0
 SavedSome before after broke job shape tables (Tables refusal) =
-    SavingStopped before after broke job shape tables refusal
+    SaveBroke before after broke job shape tables refusal
 SavedSome before after broke job shape tables _ = ⊥
 
 abbrev pub Stopped : Holds → Holds → Type 0 → Job → Code → List ℕ → RunRefusal → Type 0

@@ -1,13 +1,14 @@
 // Conversations from files to files.
 #![tactic(auto)]
 
-ghost use Rattle.std.specs.Prelude.{◌≡◌, ◌≤◌, true, false, length, IfOk, IfErr, OnErr, OnOk};
+ghost use Rattle.std.specs.Prelude.{◌≡◌, ◌≤◌, true, false, length, Err, IfOk, IfErr, OnErr, OnOk};
 ghost use Rattle.file_access.specs.Holding.{Rose, SameFiles};
 ghost use Rattle.operating.specs.Answers.{AnswersKept, LastUnkept};
 ghost use Rattle.run_commands.specs.declared.job.Job.{Job as AnyJob};
 ghost use Rattle.run_commands.specs.declared.refusal.RunRefusal.TheVariants.{Memory};
-ghost use Rattle.run_commands.specs.Operating.{IfOfRun, IsWith, OperationBroke, OperationRefused, SameResult};
-ghost use Rattle.run_commands.specs.Operating.{SoundOver};
+ghost use Rattle.run_commands.specs.declared.conversation.OperateRefusal.TheVariants.{Handed};
+ghost use Rattle.run_commands.specs.Operating.{IfOfRun, IsNoBeginning, IsWith, OperationBroke, OperationRefused};
+ghost use Rattle.run_commands.specs.Operating.{SameResult, SoundOver};
 ghost use Rattle.run_steps.specs.Shapes.{StoreFits};
 ghost use Rattle.run_commands.specs.Parts.{CodeStopped, CodeRefused, IsOfTables, Stopped};
 ghost use Rattle.run_commands.specs.Reports.{CodeRan, HasRun, IsSavedRun, RefusedBefore, SavingStopped};
@@ -281,6 +282,7 @@ pub fn operate_files<F: Files, J: Journal, O: Operator>(
         (λ refusal. (whole : AnyJob) → IsWith job.now (J.holds journal.new) whole
         → OperationRefused (F.holds files.old) (F.holds files.new) whole
         (Rose (F.failed files.old) (F.failed files.new)) refusal result.rows.items) }
+    ensures handed { result.result ≡ Err Handed → IsNoBeginning job.now.input.now most }
     ensures few { OnOk result.result (length (J.holds journal.new) ≤ most) }
     ensures still { length (J.holds journal.old) ≤ most → length (J.holds journal.new) ≤ most }
 

@@ -6,7 +6,7 @@ ghost use Rattle.file_access.specs.Holding.{Rose, SameFiles};
 ghost use Rattle.file_commands.specs.Reports.{HasCode};
 ghost use Rattle.operating.specs.Answers.{AnswersKept, LastUnkept};
 ghost use Rattle.run_commands.specs.declared.job.Job.{Job as AnyJob};
-ghost use Rattle.run_commands.specs.Operating.{IfOfRun, IsWith, OperationBroke};
+ghost use Rattle.run_commands.specs.Operating.{IfOfRun, IfOfTalk, IsWith, OperationBroke};
 ghost use Rattle.run_commands.specs.Parts.{CodeRefused, IsOfTables};
 ghost use Rattle.run_commands.specs.Rehearsals.{IsRehearsed, LeavesTables};
 ghost use Rattle.run_commands.specs.Reports.{RefusedBefore};
@@ -152,8 +152,8 @@ pub fn rehearse_talk<F: Files, J: Journal, O: Operator>(
     requires held { J.holds journal.old ≡ job.now.input.now }
     ensures done { IfOk result (λ told. (whole : AnyJob) → IsWith job.now (J.holds journal.new) whole
         → HasCode (F.holds files.old whole.name.now) (IsRehearsed (F.holds files.old) whole told)) }
-    ensures refused { IfErr result (IfOfRun (RefusedBefore (F.holds files.old) job.now
-        (Rose (F.failed files.old) (F.failed files.new)))) }
+    ensures refused { IfErr result (IfOfTalk (RefusedBefore (F.holds files.old) job.now
+        (Rose (F.failed files.old) (F.failed files.new))) job.now.input.now most) }
     ensures kept { SameFiles (F.holds files.old) (F.holds files.new) }
     ensures few { OnOk result (length (J.holds journal.new) ≤ most) }
     ensures still { length (J.holds journal.old) ≤ most → length (J.holds journal.new) ≤ most }

@@ -65,6 +65,7 @@ fn last_written_is_held(alloc: Global) -> bool {
         && reads(alloc, &mut files, "A", 4) == Ok(4)
         && reads(alloc, &mut files, "A", 3) == Err(ReadFault::TooLong)
         && reads(alloc, &mut files, "D", 3) == Err(ReadFault::Absent)
+        && files.failures() == 0
 }
 
 /// Whether a device fails behind so many calls, counts that and changes no file, and works again when it is told to.
