@@ -70,13 +70,13 @@ fn told(alloc: Global, text: &str, pool: &mut Pool) -> Result<String, AllocError
 
 /// Expressions, and what is told of them; each is compiled with the constants of those before it.
 const ROWS: &str = "\
-     1 + X|Values(Constant(0)); Values(Load(Number, 3)); Values(Function(Add)); 1 constants\n\
-     X * 1 - 1.0|Values(Load(Number, 3)); Values(Constant(0)); Values(Function(Mul)); \
-     Values(Constant(1)); Values(Function(Sub)); 2 constants\n\
+     1 + X|Values(Constant(0)); Values(Load(Number, 3)); Values(Function(OfTwo(Add))); 1 constants\n\
+     X * 1 - 1.0|Values(Load(Number, 3)); Values(Constant(0)); Values(Function(OfTwo(Mul))); \
+     Values(Constant(1)); Values(Function(OfTwo(Sub))); 2 constants\n\
      X + 'A'|0 0 Kind\n\
      Y|0 0 Name\n\
      RECNO()|0 0 ClosedArea\n\
-     'A' = 'A'|Values(Constant(2)); Values(Constant(2)); Values(Function(TextEq)); 3 constants\n\
+     'A' = 'A'|Values(Constant(2)); Values(Constant(2)); Values(Function(ToTruth(TextEq))); 3 constants\n\
     ";
 
 /// The first row of which something else is told.
