@@ -50,8 +50,8 @@ then ps qs old between new a b = b ∙ ap (λ (xs : List Piece). xs ++ qs) a ∙
 
 -- two operands and the function, in either order
 pub both_put : (o : Option OperatorMeaning) (op : OperatorMeaning) (swapped : Bool) (a b old between new : List Piece)
-    → o ≡ Some op → op.swapped ≡ swapped → between ≡ old ++ swapped_if swapped a b → new ≡ between ++ operation_pieces op
-    → new ≡ old ++ operator_pieces o a b
+    → o ≡ Some op → op.swapped ≡ swapped → between ≡ old ++ swapped_if swapped a b
+    → new ≡ between ++ operation_pieces op → new ≡ old ++ operator_pieces o a b
 both_put o op swapped a b old between new is order first last =
     subst (λ x. new ≡ old ++ operator_pieces x a b) (sym is)
     (subst (λ y. new ≡ old ++ (swapped_if y a b ++ operation_pieces op)) (sym order)
