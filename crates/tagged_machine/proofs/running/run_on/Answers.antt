@@ -4,7 +4,7 @@ use Rattle.std.specs.Prelude.{List}
 use Rattle.code_items.specs.declared.code.Proc.{Proc}
 use Rattle.work_area.specs.Areas.{StoreState}
 use Rattle.run_steps.specs.World.{EnvState, desk_of}
-use Rattle.run_values.specs.Standing.{IsTagged}
+use Rattle.run_values.specs.Standing.{IsTagged, tagged_of}
 use Rattle.run_steps.proofs.Runs.{ends_finished, ends_spent, stops_by, costs_some}
 use Rattle.tagged_machine.specs.Seen.{world_seen, LeavesStore}
 use Rattle.tagged_machine.proofs.Worlds.{stands}
@@ -84,7 +84,7 @@ loop-kind-smaller g c =
     let h = here (world_seen m) c.faultless_worlds_go_on.ensures c.requires.legal comes c.get-instr.ensures
     c.in_default.ensures in
     let x = c.in-Ok.ensures.steps (world_seen m) (stands m) (h.ready (sym c.if-finishes.ensures)) in
-    let some = costs_some c.args.code.now c.get-instr.result.now m.values m.env in
+    let some = costs_some c.args.code.now c.get-instr.result.now (tagged_of m.values) m.env in
     omega (arith, x.1, x.2, some, c.loop-kind.invariant.within)
 
 pub follow-requires : goal.follow-requires
@@ -114,7 +114,7 @@ loop-kind-preserved g c =
       within = omega (arith, x.2, c.loop-kind.invariant.within);
       shown = c.follow.ensures m.env.store c.loop-kind.invariant.shown
           (subst (LeavesStore _ m.env.store) (sym (store ∙ ap (λ (e : EnvState). e.store) x.0.env_is))
-          (leaves_store c.args.code.now _ m.values m.env)) ∙ ap desk_of store;
+          (leaves_store c.args.code.now _ (tagged_of m.values) m.env)) ∙ ap desk_of store;
     }
 
 pub returns-in-Err-clause-ran : goal.returns-in-Err-clause-ran
