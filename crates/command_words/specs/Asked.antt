@@ -74,7 +74,7 @@ AreOutcomes rows Nothing = ⊥
 AreOutcomes rows Told = (has_flag (codes "rehearse") rows ≡ true) × (says_how rows ≡ false)
 AreOutcomes rows (Saved save) = (has_flag (codes "rehearse") rows ≡ false) × IsSave rows save
 
--- a run that tests each instruction saves nothing
+-- a run of any code saves nothing
 abbrev pub AreTested : List Row → Outcomes → Type 0
 AreTested rows Nothing = (has_flag (codes "changes") rows ≡ false)
 AreTested rows Told = (has_flag (codes "changes") rows ≡ true)

@@ -416,7 +416,7 @@ fn saving_runner<'a>(alloc: Global) -> Result<Command<'a>, AllocError>
     with_word(saver(alloc, run)?, screens(alloc))
 }
 
-/// The words of a run that tests each instruction.
+/// The words of a run of any code.
 fn testing_runner<'a>(alloc: Global) -> Result<Command<'a>, AllocError>
     ensures { IfOk result (λ c. app_of c
         ≡ alone (taking (codes "check-run") (run_words ++ flag_word (codes "changes") ∷ []))) }
@@ -424,7 +424,7 @@ fn testing_runner<'a>(alloc: Global) -> Result<Command<'a>, AllocError>
     let run = runner(
         alloc,
         "check-run",
-        "Runs any code file, testing each instruction first; saves nothing",
+        "Runs any code file, and stops before a fault; saves nothing",
         "Example, behind that of compile: dbrun check-run DAY.XBC --changes < day.txt",
         &HELP,
     )?;

@@ -524,7 +524,7 @@ fn save_done<R: Runtime<A = Global, File = File>>(
     status
 }
 
-/// Tests each instruction of the code while it runs, and saves nothing.
+/// Runs any code on the checking machine, and saves nothing.
 fn run_tested<R: Runtime<A = Global>>(rt: &R, audience: Audience, job: &Job<'_>) -> Status {
     let mut folder = folder(rt, audience);
     let done = run_told(rt, audience, &mut folder, job);

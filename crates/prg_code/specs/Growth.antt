@@ -1,6 +1,7 @@
 -- Code that is being written only grows: what stood still stands.
-use Rattle.std.specs.Prelude.{◌≡◌, ℕ, ◌≤◌, Bool, true, List, [], ◌∷◌, ◌++◌, map, length, None}
+use Rattle.std.specs.Prelude.{◌≡◌, ℕ, ◌≤◌, Bool, true, List, [], ◌∷◌, ◌++◌, map, length, replicate, None}
 use Rattle.code_items.specs.declared.instr.Instr.{Instr}
+use Rattle.code_items.specs.declared.desk.AreaState.TheVariants.{Closed}
 use Rattle.code_items.specs.declared.state.State.{State}
 use Rattle.code_rules.specs.Flow.{desk_after, slots_after}
 use Rattle.prg_code.specs.declared.block.Draft.{Draft}
@@ -29,6 +30,12 @@ pub record BlockGrows (earlier later : DraftBlock) : Type 0 where
   pub pieces : Grows earlier.pieces.items later.pieces.items
   pub labels : length earlier.labels.items ≤ length later.labels.items
   pub highest : earlier.highest ≤ later.highest
+
+-- what is known where a program begins: all areas are closed, the first is selected, no slot is known, and the stack is
+-- empty
+abbrev pub nothing_known : State
+nothing_known =
+    record { desk = record { selected = 1; areas = replicate 10 Closed }; slots = replicate 256 None; stack = [] }
 
 -- a block of which nothing is written yet, and at whose beginning this is known
 pub record BlockBegins (known : State) (block : DraftBlock) : Type 0 where

@@ -1,9 +1,10 @@
 //! A procedure's block that is being written.
 
 ghost use Rattle.std.specs.Prelude.{◌≡◌, ◌<◌, ◌^◌, [], ◌∷◌, ◌++◌, true, false, length, take, IfOk, IsOk, OnOk, OnErr};
+ghost use Rattle.std.specs.Prelude.{replicate, None};
 ghost use Rattle.code_items.specs.declared.instr.FlowInstr.TheVariants.{End};
 ghost use Rattle.code_items.specs.declared.instr.Instr.TheVariants.{Flow};
-ghost use Rattle.prg_code.specs.Growth.{BlockGrows, BlockBegins, IsBesidePieces, Puts, drafts_of};
+ghost use Rattle.prg_code.specs.Growth.{BlockGrows, BlockBegins, IsBesidePieces, Puts, drafts_of, nothing_known};
 ghost use Rattle.prg_code.specs.declared.block.Draft.TheVariants as draft;
 
 use crate::fault::{CompileError, CompileFaultKind};
@@ -13,6 +14,7 @@ use code_items::{AreaState, Desk, FlowInstr, Instr, Items, KindSlots, KindStack,
 use code_rules::Signature;
 use code_rules::flow::{change_desk, change_slots};
 use std::alloc::{AllocError, Global};
+use xvalue::Kind;
 
 /// The most values on the stack.
 const MOST_VALUES: usize = 64;
@@ -84,10 +86,23 @@ pub struct DraftBlock {
     pub highest: usize,
 }
 
+/// As many slots, of which nothing is known.
+fn free_slots(alloc: Global, count: usize) -> Result<Vec<Option<Kind>>, AllocError>
+    ensures { IfOk result (λ slots. slots.items ≡ replicate count None) }
+{
+    let mut slots = Vec::new(alloc);
+    for _ in 0..count {
+        slots.push(None)?;
+    }
+    Ok(slots)
+}
+
 /// Nothing known of 256 slots, all areas closed and the first selected.
-fn blank(alloc: Global) -> Result<State, AllocError> {
+fn blank(alloc: Global) -> Result<State, AllocError>
+    ensures { IfOk result (λ state. state ≡ nothing_known) }
+{
     let areas = vec![in alloc; AreaState::Closed; 10]?;
-    let kinds = vec![in alloc; None; MOST_SLOTS]?;
+    let kinds = free_slots(alloc, MOST_SLOTS)?;
     Ok(State {
         desk: Desk {
             selected: 1,
@@ -101,7 +116,7 @@ fn blank(alloc: Global) -> Result<State, AllocError> {
 impl DraftBlock {
     /// An empty block of the main procedure.
     pub fn main(alloc: Global) -> Result<DraftBlock, AllocError>
-        ensures { IfOk result (λ block. BlockBegins block.state block) }
+        ensures { IfOk result (BlockBegins nothing_known) }
     {
         Ok(DraftBlock::entered(alloc, blank(alloc)?))
     }

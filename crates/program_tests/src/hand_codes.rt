@@ -99,6 +99,18 @@ pub const FAULTS: &str = "%table T.DBF K C 1 0
 #a procedure that leaves a table open
 %over T%procedures 2 1,2 0,%code 0x12 0 1 0; 0x14 0 0 0; 0x20 0 0 0; 0x13 0 0 0;
 %verdict Exit 3%checked 100 finished 4
+#a slot that is unset at the second turn
+%stack 1%slots 1%constants N 1|L 1|
+%code 0x01 0 0 0; 0x03 1 0 0; 0x02 1 0 0; 0x05 1 0 0; 0x01 0 1 0; 0x11 0 0 8; 0x04 0 0 0; 0x10 0 0 2; 0x14 0 0 0;
+%checked 7 spent 7%checked 8 fault Unset 2 8%checked 100 fault Unset 2 8
+#a slot that holds another kind at the second turn
+%stack 1%slots 1%constants N 1|L 1|
+%code 0x01 0 0 0; 0x03 1 0 0; 0x02 1 0 0; 0x05 1 0 0; 0x01 0 1 0; 0x11 0 0 9; 0x01 0 1 0; 0x03 4 0 0; 0x10 0 0 2;
+0x14 0 0 0;
+%checked 8 spent 8%checked 9 fault WrongKind 2 9%checked 100 fault WrongKind 2 9
+#a value more at each turn
+%stack 3%code 0x01 0 0 0; 0x10 0 0 0; 0x14 0 0 0;
+%checked 5 spent 5%checked 6 fault StackOver 0 6%checked 100 fault StackOver 0 6
 #a record added, written and marked
 %over T%stack 1%constants T B|%steps 6
 %code 0x20 0 0 0; 0x30 0 0 0; 0x01 0 0 0; 0x31 0 0 0; 0x32 0 0 0; 0x14 0 0 0;

@@ -2,6 +2,8 @@
 #![tactic(auto)]
 
 ghost use Rattle.std.specs.Prelude.{◌≡◌, IfSome, length};
+ghost use Rattle.run_steps.specs.Shapes.{HasShape};
+ghost use Rattle.work_area.specs.Areas.{AreApart};
 
 use super::parts::RunCase;
 use super::stored::{day_in, limit_in};
@@ -13,11 +15,41 @@ use ndx_tree::NdxTree;
 use run_laws::laws::new_stores_fit;
 use std::alloc::Global;
 use table_files::{load, save};
-use tagged_machine::{World, run_checked};
+use tagged_machine::{End, World, run_checked};
 use text_lines::TypedLines;
 use xcode::LegalCode;
 
-/// The world that a run of a code on the checking machine leaves.
+/// Gives a run just what its next step costs, if so much is left. Answers what it cost, or 0 where there is no step.
+fn take_step(alloc: Global, code: &LegalCode, world: &mut World<NdxTree>, left: u64) -> u64
+    requires shape { HasShape code.now world.old }
+    requires apart { AreApart world.old.env.store.areas }
+    ensures shape { HasShape code.now world.new }
+    ensures apart { AreApart world.new.env.store.areas }
+{
+    for piece in 1..=left {
+        let outcome = run_checked(alloc, code, world, piece);
+        match outcome.end {
+            End::Spent if outcome.steps == 0 => {}
+            _ => return outcome.steps,
+        }
+    }
+    0
+}
+
+/// Runs a code on the checking machine step by step. A block of more than one step is never paid for so, and each step
+/// is tested by itself.
+fn run_step_by_step(alloc: Global, code: &LegalCode, world: &mut World<NdxTree>, budget: u64)
+    requires shape { HasShape code.now world.old }
+    requires apart { AreApart world.old.env.store.areas }
+    ensures shape { HasShape code.now world.new }
+{
+    let mut left = budget;
+    for _ in 0..budget {
+        left = left.saturating_sub(take_step(alloc, code, world, left));
+    }
+}
+
+/// The world that a run of a code on the checking machine leaves, step by step.
 fn world_behind(
     alloc: Global,
     files: &mut MemoryFiles<'_>,
@@ -42,12 +74,12 @@ fn world_behind(
         return None;
     };
     let mut world = world;
-    run_checked(alloc, code, &mut world, budget);
+    run_step_by_step(alloc, code, &mut world, budget);
     Some(world)
 }
 
-/// Runs the code of this name on the checking machine, as a case says, and saves what that leaves; whether it was
-/// saved.
+/// Runs the code of this name on the checking machine step by step, as a case says, and saves what that leaves; whether
+/// it was saved.
 pub fn saved_by_checking(
     alloc: Global,
     files: &mut MemoryFiles<'_>,

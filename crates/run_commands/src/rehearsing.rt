@@ -148,7 +148,7 @@ pub(crate) fn told_of(alloc: Global, shape: &Shape, done: Compared) -> Result<Re
     })
 }
 
-/// Rehearses a code, accepted or not, for a job that tests each instruction.
+/// Rehearses a code, accepted or not, on the checking machine.
 fn rehearse_any<F: Files, W: Watcher>(
     alloc: Global,
     files: &mut F,

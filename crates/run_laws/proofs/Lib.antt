@@ -13,6 +13,7 @@ pub mod Shaped
 pub mod Heights
 pub mod Changes
 pub mod Steps
+pub mod Staying
 pub mod Openings
 pub mod Costs
 pub mod Parts

@@ -65,6 +65,16 @@ pub fn steps_keep_the_shape()
     tables_keep_their_kind();
 }
 
+/// So a run from a world of a code's shape, where no two work areas hold one table, stays among such worlds.
+pub fn runs_keep_the_shape()
+    ensures { (code : AnyCode) (w : World) → IsCode code → HasShape code w → AreApart w.env.store.areas
+        → (n : ℕ) (v : World) → after code w n ≡ Some v → HasShape code v × AreApart v.env.store.areas }
+{
+    legal_codes();
+    faultless_instructions_are_clear();
+    steps_keep_the_shape();
+}
+
 /// The world from which a run begins has the code's shape where the store fits what is declared, and no two work areas
 /// hold one table there.
 pub fn openings_have_the_shape()

@@ -1,5 +1,5 @@
 -- Runs of accepted code in parts.
-use Rattle.std.specs.Prelude.{◌≡◌, ℕ}
+use Rattle.std.specs.Prelude.{◌≡◌, ◌+◌, ◌/◌, ◌&&◌, ℕ, if◌then◌else◌, nat_lt, min}
 use Rattle.code_items.specs.declared.code.Code.{Code}
 use Rattle.machine.specs.Twins.{BankState, AgreesWith, Twin}
 use Rattle.run_steps.specs.declared.ending.End.TheVariants.{Spent}
@@ -22,3 +22,9 @@ pub record RunsTo (code : Code) (from : World) (budget : ℕ) (outcome : Outcome
 pub data IsAt (code : Code) (from : World) (steps : ℕ) (b : BankState) : Type 0 where
   Begun : steps ≡ 0 → Twin code from b → IsAt code from steps b
   Behind : (budget : ℕ) → RunsTo code from budget (record { end = Spent; steps = steps }) b → IsAt code from steps b
+
+-- what the next part is to cost at most, by this one's and the nanoseconds that it took: twice as much behind less than
+-- a quarter of a second, half as much behind more than a second
+abbrev pub part_after : ℕ → ℕ → ℕ
+part_after part nanos = if nat_lt nanos 250000000 then min (part + part) 18446744073709551615
+    else (if nat_lt 1000000000 nanos && nat_lt 1 part then part / 2 else part)

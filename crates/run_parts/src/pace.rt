@@ -1,7 +1,8 @@
 //! How much of a run a part is to be.
 
+ghost use Rattle.run_parts.specs.Parts.{part_after};
 ghost use Rattle.std.specs.Duration.{as_nanos};
-ghost use Rattle.std.specs.Prelude.{◌<◌, ◌≤◌};
+ghost use Rattle.std.specs.Prelude.{◌≡◌, ◌≤◌};
 
 use std::time::Duration;
 
@@ -14,8 +15,7 @@ pub const FIRST_PART: u64 = 1_000_000;
 pub fn next_part(part: u64, took: Duration) -> u64
     requires { 1 ≤ part }
     ensures some { 1 ≤ result }
-    ensures greater { as_nanos took < 250000000 → part ≤ result }
-    ensures lesser { 1000000000 < as_nanos took → result ≤ part }
+    ensures pace { result ≡ part_after part (as_nanos took) }
 {
     let nanos = took.as_nanos();
     if nanos < 250_000_000 {

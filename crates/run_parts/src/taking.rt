@@ -4,7 +4,7 @@ ghost use Rattle.machine.specs.Twins.{Begins, Twin};
 ghost use Rattle.run_parts.specs.Parts.{RunsTo};
 ghost use Rattle.run_steps.specs.World.{World};
 ghost use Rattle.run_steps.specs.declared.ending.End.TheVariants.{Spent};
-ghost use Rattle.std.specs.Prelude.{◌≡◌, ◌<◌, ◌≤◌, true, false};
+ghost use Rattle.std.specs.Prelude.{◌≡◌, ◌+◌, ◌<◌, ◌≤◌, true, false, min, max};
 
 use crate::watcher::Watcher;
 use key_lists::KeyList;
@@ -34,7 +34,8 @@ pub fn is_spent(end: End) -> bool
 
 /// The lesser of what a part is to cost at most and all that is left.
 pub fn lesser(most: u64, left: u64) -> u64
-    ensures { result ≤ left }
+    ensures least { result ≡ min most left }
+    ensures within { result ≤ left }
 {
     if most < left { most } else { left }
 }
@@ -54,6 +55,7 @@ pub fn wider(budget: u64, left: u64) -> u64
     requires { budget < left }
     ensures wider { budget < result }
     ensures within { result ≤ left }
+    ensures twice { result ≡ min (max 1 (budget + budget)) left }
 {
     if budget == 0 {
         return 1;
@@ -76,6 +78,7 @@ pub fn take_part<K: KeyList>(
     requires twin { (w : World) × Twin verified.now w banks.old }
     ensures ran { (w : World) → Twin verified.now w banks.old
         → RunsTo verified.now w result.budget result.outcome banks.new }
+    ensures asked { min most left ≤ result.budget }
     ensures within { result.budget ≤ left }
     ensures paid { result.outcome.steps ≤ result.budget }
     ensures further { result.outcome.end ≡ Spent → result.budget < left → 0 < result.outcome.steps }

@@ -22,6 +22,7 @@ mod row_values;
 mod row_works;
 pub mod running;
 
+pub use carrying::take_block;
 pub use decoding::Decoded;
 pub use ending::{End, Outcome, Stop, finishing};
 pub use environment::Environment;

@@ -7,17 +7,17 @@ ghost use Rattle.run_values.specs.Tagged.{TaggedValues};
 ghost use Rattle.xvalue.specs.Kinds.{kind_of, kind_held};
 
 use crate::lent::Lent;
-use crate::operands::Operand;
+use crate::operands::{Operand, SLOT_PLACES};
 use crate::pile::Pile;
 use crate::untagged::Untagged;
-use crate::values::Values;
+use crate::values::{Registered, Values};
 use fixed_num::Num;
 use std::alloc::{AllocError, Global};
 use std::marker::Model;
 use xvalue::laws::{arguments_are_few, results_have_their_kind};
 use xvalue::{Fun, Kind, Settings, Value};
 
-/// Slots and a stack of values with their kinds.
+/// Slots and a stack of values with their kinds, and registers.
 #[derive(Drop)]
 pub struct Tagged {
     values: Untagged,
@@ -26,12 +26,12 @@ pub struct Tagged {
 }
 
 impl Model for Tagged {
-    ghost use Rattle.run_values.specs.Kept.{IsOfKinds, tagged_by};
-    ghost use Rattle.run_values.specs.Tagged.{TaggedValues};
+    ghost use Rattle.run_values.specs.Kept.{IsOfKinds, state_by, tagged_by};
+    ghost use Rattle.run_values.specs.Standing.{TaggedState};
 
-    ghost Value = { TaggedValues };
+    ghost Value = { TaggedState };
 
-    ghost view = { λ s. tagged_by s.slots.items s.stack s.values };
+    ghost view = { λ s. state_by s.slots.items s.stack s.values };
 
     ghost invariant = { λ s. IsOfKinds s.slots.items s.stack s.values (tagged_by s.slots.items s.stack s.values) };
 }
@@ -48,10 +48,11 @@ fn unset_slots(alloc: Global, count: usize) -> Result<Vec<Option<Kind>>, AllocEr
 }
 
 impl Tagged {
-    /// So many slots, at most 256, all unset, and an empty stack.
+    /// So many slots, at most 256, all unset, an empty stack and no registers.
     pub fn new(alloc: Global, slots: usize) -> Result<Tagged, AllocError>
         requires { slots ≤ 256 }
-        ensures { IfOk result (λ values. values ≡ record { slots = replicate slots None; stack = [] }) }
+        ensures { IfOk result (λ values. values
+            ≡ record { slots = replicate slots None; stack = []; registers = no_registers }) }
     {
         Ok(Tagged {
             values: Untagged::new(alloc, slots)?,
@@ -88,7 +89,7 @@ impl Tagged {
 impl Values for Tagged {
     ghost stands = { IsTagged };
 
-    ghost registers = { λ _. no_registers };
+    ghost registers = { λ s. s.registers };
 
     fn push(&mut self, value: Value) {
         let kind = value.kind();
@@ -177,5 +178,26 @@ impl Values for Tagged {
         self.values.call(fun, settings);
         self.stack.drop_top(fun.takes().len());
         self.stack.push(fun.gives());
+    }
+}
+
+impl Registered for Tagged {
+    fn set_number_register(&mut self, register: usize, number: Num) {
+        self.values.set_number_register(register, number);
+    }
+
+    fn put_number(&mut self, to: Operand, number: Num) {
+        self.values.put_number(to, number);
+        if to.place < SLOT_PLACES {
+            self.slots[usize::from(to.place)] = Some(Kind::Number);
+        }
+    }
+
+    fn set_truth_register(&mut self, register: usize, truth: bool) {
+        self.values.set_truth_register(register, truth);
+    }
+
+    fn fill_registers(&mut self, constants: &[Value]) -> bool {
+        self.values.fill_registers(constants)
     }
 }

@@ -6,7 +6,7 @@
 //! | `lines`, `screen` | the operator's lines, and the screen |
 //! | `tables`, `indexes`, `areas` | DBF tables, NDX indexes, and the work areas over declared ones |
 //! | `codes`, `verifier` | code files, and which of them are accepted |
-//! | `machine_for_accepted`, `checking_machine` | the machine without tests; the one that tests each instruction |
+//! | `machine_for_accepted`, `checking_machine` | the machine without tests; the one that carries out no fault |
 //! | `parser`, `compiler` | command files read to trees, and trees compiled to accepted code |
 //! | `files`, `folder` | what is asked of files; files in memory, and those of a folder of the disk |
 //! | `declarations`, `stored`, `compiling`, `listings`, `runs` | from files to files: what the program's commands do |

@@ -7,6 +7,7 @@ ghost use Rattle.code_items.specs.Legal.{IsCode, places_of};
 ghost use Rattle.run_steps.specs.Control.{is_false as is_false_of, flow_place as flow_place_of, place_after};
 ghost use Rattle.run_steps.specs.Effects.{top};
 ghost use Rattle.run_steps.specs.Faults.{bad_jump as bad_jump_of};
+ghost use Rattle.run_values.specs.Standing.{tagged_of};
 ghost use Rattle.tagged_machine.specs.Seen.{world_seen};
 
 use code_items::{Code, FlowInstr, Instr};
@@ -21,7 +22,7 @@ use xvalue::Kind;
 
 /// Whether the truth value false is on top.
 fn is_false(values: &Tagged) -> bool
-    ensures { result ≡ is_false_of (top values.now) }
+    ensures { result ≡ is_false_of (top (tagged_of values.now)) }
 {
     match values.kinds().last() {
         Some(kind) => kind.is(Kind::Logical) && !values.truth(),
@@ -33,7 +34,8 @@ fn is_false(values: &Tagged) -> bool
 fn flow_place<K: KeyList>(code: &Code, machine: &Machine<Tagged, K>, instr: FlowInstr) -> usize
     requires legal { IsCode code.now }
     requires place { machine.now.place < 65536 }
-    ensures { result ≡ flow_place_of code.now instr machine.now.place machine.now.returns machine.now.values }
+    ensures { result
+        ≡ flow_place_of code.now instr machine.now.place machine.now.returns (tagged_of machine.now.values) }
 {
     let place = machine.place;
     match instr {
@@ -50,7 +52,8 @@ fn flow_place<K: KeyList>(code: &Code, machine: &Machine<Tagged, K>, instr: Flow
 fn next_place<K: KeyList>(code: &Code, machine: &Machine<Tagged, K>, instr: Instr) -> usize
     requires legal { IsCode code.now }
     requires place { machine.now.place < 65536 }
-    ensures { result ≡ place_after code.now instr machine.now.place machine.now.returns machine.now.values }
+    ensures { result
+        ≡ place_after code.now instr machine.now.place machine.now.returns (tagged_of machine.now.values) }
 {
     match instr {
         Instr::Flow(instr) => flow_place(code, machine, instr),

@@ -10,6 +10,7 @@ ghost use Rattle.tagged_machine.specs.Seen.{world_seen};
 ghost use Rattle.work_area.specs.Areas.{AreApart, OpenIndexesList};
 
 use crate::faults::fault;
+use crate::guarded::Guarded;
 use crate::scratch::TestScratch;
 use crate::world::World;
 use code_items::Code;
@@ -23,7 +24,7 @@ use run_laws::laws::{
     safe_runs_meet_no_fault, steps_keep_the_shape,
 };
 use run_steps::running::finishes;
-use run_steps::{End, FilterWorks, Machine, Outcome, execute, finishing};
+use run_steps::{End, Machine, Outcome, execute, finishing};
 use run_values::Tagged;
 use std::alloc::Global;
 
@@ -46,10 +47,11 @@ fn run_on<K: KeyList>(
     faultless_worlds_go_on();
     steps_keep_the_shape();
     let places = places_of_blocks(code.procedures.as_slice());
-    let filters = FilterWorks::of(alloc, code);
+    let guarded = Guarded::of(alloc, code, &mut machine.values);
     let mut steps = 0;
     scratch.areas.show(machine.env.store());
     loop {
+        steps += guarded.take_blocks(code, machine, budget - steps);
         let instr = *code.instructions.get(machine.place);
         let desk = scratch.areas.desk();
         if let Some(kind) = fault(code, places, machine, desk, &mut scratch.block, instr) {
@@ -59,7 +61,14 @@ fn run_on<K: KeyList>(
         if finishes(&machine.returns, instr) {
             return finishing(steps, budget);
         }
-        match execute(alloc, code, &filters, machine, instr, budget - steps) {
+        match execute(
+            alloc,
+            code,
+            &guarded.decoded.filters,
+            machine,
+            instr,
+            budget - steps,
+        ) {
             Ok(cost) => {
                 steps += cost;
                 scratch.areas.follow(machine.env.store(), instr);

@@ -19,7 +19,7 @@ use std::marker::Model;
 use text_lines::TypedLines;
 use work_area::Store;
 
-/// The world of a run that is tested before each instruction: values that keep their kinds, and room for the tests.
+/// The world of a run of any code: values that keep their kinds, and room for the tests.
 #[derive(Drop)]
 pub struct World<K: KeyList> {
     pub(crate) machine: Machine<Tagged, K>,

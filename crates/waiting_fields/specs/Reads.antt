@@ -1,7 +1,7 @@
 -- READs, and which shown values they ask for.
-use Rattle.std.specs.Prelude.{◌≡◌, ◌-◌, ◌==◌, ◌&&◌, ◌⊎◌, ℕ, Bool, true, false, List, [], Option, Some, None}
+use Rattle.std.specs.Prelude.{◌≡◌, ◌+◌, ◌-◌, ◌==◌, ◌&&◌, ◌⊎◌, ℕ, Bool, true, false, List, [], Option, Some, None}
 use Rattle.std.specs.Prelude.{if◌then◌else◌, map, slice_get}
-use Rattle.std.specs.List.{All}
+use Rattle.std.specs.List.{All, Any, Contains}
 use Rattle.code_items.specs.declared.instr.Instr.{Instr}
 use Rattle.code_items.specs.declared.instr.Instr.TheVariants.{Values, Screen, Records}
 use Rattle.code_items.specs.declared.instr.RecordInstr.{RecordInstr}
@@ -61,8 +61,18 @@ shows_at code place = passes shows_value (slice_get code place)
 abbrev pub AreMatched : List Instr → List ℕ → List ℕ → Type 0
 AreMatched code takes shows = map (before code) shows ≡ map (before code) takes
 
--- lines are taken for variables and fields, and each of these is shown once, in order, or it can't be told where
+-- a line that is taken three places behind one of these is one of these
+abbrev pub GoesOn : List Instr → List ℕ → Type 0
+GoesOn code takes = (place : ℕ) → Contains takes place → takes_at code (place + 3) ≡ true → Contains takes (place + 3)
+
+-- lines are taken for variables and fields, one behind the other, and each of these is shown once, in order, or it
+-- can't be told where
 pub record IsReadOfCode (code : List Instr) (read : Read) : Type 0 where
   pub takes : All (λ place. takes_at code place ≡ true) read.takes.items
+  pub goes_on : GoesOn code read.takes.items
   pub shows : All (λ place. shows_at code place ≡ true) read.shows.items
   pub matched : (read.shows.items ≡ []) ⊎ AreMatched code read.takes.items read.shows.items
+
+-- one of the READs takes a line at the place
+abbrev pub IsTaken : List Read → ℕ → Type 0
+IsTaken reads place = Any (λ read. Contains read.takes.items place) reads

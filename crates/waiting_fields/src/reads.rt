@@ -1,10 +1,10 @@
 //! The READs of a code.
 
-ghost use Rattle.std.specs.Prelude.{◌≡◌, true, IfOk};
-ghost use Rattle.std.specs.List.{All};
+ghost use Rattle.std.specs.Prelude.{◌≡◌, ◌≤◌, ◌-◌, ℕ, true, false, length, IfOk};
+ghost use Rattle.std.specs.List.{All, Contains};
 ghost use Rattle.code_items.specs.Showing.{shows_value};
 ghost use Rattle.waiting_fields.specs.Reads as spec;
-ghost use Rattle.waiting_fields.specs.Reads.{AreMatched, IsReadOfCode};
+ghost use Rattle.waiting_fields.specs.Reads.{AreMatched, GoesOn, IsReadOfCode, IsTaken};
 
 use code_items::Code;
 use code_items::instr::{FlowInstr, Instr, RecordInstr, ScreenInstr, ValueInstr};
@@ -65,7 +65,10 @@ fn takes_at(code: &[Instr], place: usize) -> bool
 }
 
 /// Whether a READ takes its first line at a place: none of its lines is taken just before.
-fn begins_at(code: &[Instr], place: usize) -> bool {
+fn begins_at(code: &[Instr], place: usize) -> bool
+    ensures { result ≡ false → spec.takes_at code.now place ≡ true
+        → (3 ≤ place) × (spec.takes_at code.now (place - 3) ≡ true) }
+{
     if !takes_at(code, place) {
         return false;
     }
@@ -78,21 +81,25 @@ fn begins_at(code: &[Instr], place: usize) -> bool {
     }
 }
 
+/// How many instructions there are.
+fn count_of(code: &[Instr]) -> usize
+    ensures { result ≡ length code.now }
+{
+    code.len()
+}
+
 /// The places at which the READ that begins at a place takes its lines.
 fn takes_from(alloc: Global, code: &[Instr], first: usize) -> Result<Vec<usize>, AllocError>
-    ensures { IfOk result (λ takes. All (λ place. spec.takes_at code.now place ≡ true) takes.items) }
+    ensures takes { IfOk result (λ takes. All (λ place. spec.takes_at code.now place ≡ true) takes.items) }
+    ensures goes_on { IfOk result (λ takes. GoesOn code.now takes.items) }
+    ensures first { IfOk result (λ takes. spec.takes_at code.now first ≡ true → Contains takes.items first) }
 {
+    let count = count_of(code);
     let mut takes = Vec::new(alloc);
     let mut next = first;
-    for place in first..code.len() {
-        if place != next {
-            continue;
-        }
-        if !takes_at(code, place) {
-            return Ok(takes);
-        }
-        takes.push(place)?;
-        next = place.saturating_add(3);
+    while next < count && takes_at(code, next) {
+        takes.push(next)?;
+        next = next.saturating_add(3);
     }
     Ok(takes)
 }
@@ -233,7 +240,8 @@ fn are_matched(code: &[Instr], takes: &[usize], shows: &[usize]) -> bool
 
 /// The READ whose first line is taken at a place.
 fn read_at(alloc: Global, code: &[Instr], place: usize) -> Result<Read, AllocError>
-    ensures { IfOk result (IsReadOfCode code.now) }
+    ensures read { IfOk result (IsReadOfCode code.now) }
+    ensures first { IfOk result (λ read. spec.takes_at code.now place ≡ true → Contains read.takes.items place) }
 {
     let takes = takes_from(alloc, code, place)?;
     let shows = shown_before(alloc, code, takes.as_slice(), place.saturating_sub(1))?;
@@ -246,9 +254,12 @@ fn read_at(alloc: Global, code: &[Instr], place: usize) -> Result<Read, AllocErr
     })
 }
 
-/// The READs of a code, by rising place. Those whose fields can't be told apart have no shows.
+/// The READs of a code, by rising place: each line that is taken for a variable or a field is one of a READ's. Those
+/// whose fields can't be told apart have no shows.
 pub fn reads_of(alloc: Global, code: &Code) -> Result<Vec<Read>, AllocError>
-    ensures { IfOk result (λ reads. All (IsReadOfCode code.now.instructions) reads.items) }
+    ensures reads { IfOk result (λ reads. All (IsReadOfCode code.now.instructions) reads.items) }
+    ensures all { IfOk result (λ reads. (place : ℕ) → spec.takes_at code.now.instructions place ≡ true
+        → IsTaken reads.items place) }
 {
     let instrs = code.instructions.as_slice();
     let mut reads = Vec::new(alloc);

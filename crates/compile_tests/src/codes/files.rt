@@ -139,6 +139,8 @@ const CHANGES: &str = "\
 192 25 Operation
 193 1 Operation
 201 1 Operation
+210 1 Operation
+212 1 Operation
 249 5 Operation
 257 61 Operation
 257 10 none

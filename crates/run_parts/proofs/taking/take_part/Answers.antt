@@ -1,12 +1,13 @@
 use Rattle.run_parts.proofs.PartLemmas.{of_headline, once_more}
-use Rattle.std.proofs.Common.{◌≡◌}
+use Rattle.std.proofs.Common.{◌≡◌, arith}
 use Rattle.run_steps.specs.declared.ending.End.TheVariants.{Spent}
 use Rattle.run_parts.proofs.taking.take_part.Goals as goal
 
 pub loop-outcome-init : goal.loop-outcome-init
 loop-outcome-init g c = record {
   ran = λ w t. of_headline _ w _ _ _ (c.resume-outcome.ensures w t);
-  within = c.lesser-budget.ensures;
+  asked = omega (arith, c.lesser-budget.ensures.least);
+  within = c.lesser-budget.ensures.within;
   paid = (c.resume-outcome.ensures c.requires.twin.0 c.requires.twin.1).within_the_budget;
 }
 
@@ -19,6 +20,7 @@ loop-outcome-preserved g c =
           let r = c.loop-outcome.invariant.ran w t in
           once_more _ w _ _ _ _ _ _ c.parts_make_the_whole.ensures r spent none
           (of_headline _ r.world _ _ _ (c.resume-outcome-in-loop-outcome.ensures r.world r.goes_on));
+      asked = omega (arith, c.loop-outcome.invariant.asked, c.wider-budget.ensures.wider);
       within = c.wider-budget.ensures.within;
       paid =
           let r = c.loop-outcome.invariant.ran c.requires.twin.0 c.requires.twin.1 in

@@ -1,4 +1,5 @@
 use Rattle.std.proofs.Common.{◌≤◌, ◌-◌}
+use Rattle.std.specs.Prelude.{min}
 use Rattle.machine.specs.Twins.{Twin}
 use Rattle.run_parts.specs.Parts.{RunsTo}
 use Rattle.run_steps.specs.World.{World}
@@ -7,6 +8,7 @@ use Rattle.run_parts.proofs.taking.take_part.Given as goal
 abbrev pub invariant-loop-outcome : goal.invariant-loop-outcome
 invariant-loop-outcome g l = record {
   ran : (w : World) → Twin l.fn.verified w l.fn.banks → RunsTo l.fn.verified w l.budget l.outcome l.banks;
+  asked : min l.most l.left ≤ l.budget;
   within : l.budget ≤ l.left;
   paid : l.outcome.steps ≤ l.budget;
 }

@@ -1,4 +1,5 @@
 use Rattle.std.proofs.Common.{◌≡◌, ◌-◌, ◌≤◌}
+use Rattle.run_steps.specs.Tables.{IsDecoded}
 use Rattle.run_steps.specs.World.{desk_of}
 use Rattle.tagged_machine.specs.Reached.{Comes}
 use Rattle.tagged_machine.specs.Seen.{world_seen}
@@ -9,6 +10,7 @@ invariant-loop-kind g l = record {
   comes : Comes l.fn.code (world_seen l.fn.machine) l.steps (world_seen l.machine);
   within : l.steps ≤ l.budget;
   shown : l.scratch.areas ≡ desk_of l.machine.env.store;
+  decoded : IsDecoded l.fn.code l.machine.values.registers l.guarded.decoded;
 }
 
 abbrev pub decreases-loop-kind : goal.decreases-loop-kind

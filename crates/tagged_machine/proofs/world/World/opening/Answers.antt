@@ -2,7 +2,7 @@ use Rattle.std.proofs.Common.{None, ◌∙◌, ap, subst}
 use Rattle.std.specs.Prelude.{replicate}
 use Rattle.code_items.specs.Legal.{IsCode}
 use Rattle.code_items.specs.declared.code.Code.{Code}
-use Rattle.run_values.specs.Tagged.{TaggedValues}
+use Rattle.run_values.specs.Standing.{TaggedState}
 use Rattle.tagged_machine.proofs.Going.{opened}
 use Rattle.tagged_machine.proofs.world.World.opening.Goals as goal
 
@@ -12,6 +12,6 @@ returns-clause-shape g c =
     let slots = c.from.ensures ∙ ap (λ (code : Code). code.declared.slots) c.code.ensures.same in
     opened c.openings_have_the_shape.ensures c.args.code.now c.args.store c.args.lines c.args.today
     c.in_ok-opening.field-0 legal c.requires.fits (c.in_ok-opening.ensures.opens c.args.code.now (record {
-      slots = ap (λ (t : TaggedValues). t.slots) c.in_ok-values.ensures ∙ ap (λ n. replicate n None) slots;
-      stack = ap (λ (t : TaggedValues). t.stack) c.in_ok-values.ensures;
+      slots = ap (λ (s : TaggedState). s.slots) c.in_ok-values.ensures ∙ ap (λ n. replicate n None) slots;
+      stack = ap (λ (s : TaggedState). s.stack) c.in_ok-values.ensures;
     }))
