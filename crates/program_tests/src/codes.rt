@@ -6,7 +6,7 @@ use super::cases::has_length;
 use super::parts::{RunCase, are_bytes, is_text, number_at};
 use super::stored::{are_alike, came_to, run_case};
 use super::tables::{lay, put_file};
-use super::tested::{left_alike, ready, saved_by_checking};
+use super::tested::{left_alike, printed_alike, ready, saved_by_checking};
 use file_access::{MemoryFiles, WORKS_FOR_EVER};
 use file_commands::{list_code, verify_file};
 use run_commands::{How, Report, RunDay};
@@ -104,33 +104,36 @@ fn took(report: &Report, budget: u64, steps: u64, rows: &str) -> bool {
     }
 }
 
-/// Whether both machines run the code alike within a budget, as it should be where its run takes so many steps.
+/// What both machines make of the code within a budget, if they run it alike, as it should be where its run takes so
+/// many steps.
 fn run_alike(
     alloc: Global,
     files: &mut MemoryFiles<'_>,
     case: RunCase<'_>,
     budget: u64,
     steps: u64,
-) -> bool {
-    let one = run_case(alloc, files, NAME, case, true, budget);
-    let other = run_case(alloc, files, NAME, case, false, budget);
-    match (one, other) {
-        (Some(one), Some(other)) => {
-            took(&one, budget, steps, case.says("rows\n")) && are_alike(alloc, &one, &other, NAME)
-        }
-        _ => false,
+) -> Option<Report> {
+    let one = run_case(alloc, files, NAME, case, true, budget)?;
+    let other = run_case(alloc, files, NAME, case, false, budget)?;
+    if took(&one, budget, steps, case.says("rows\n")) && are_alike(alloc, &one, &other, NAME) {
+        return Some(other);
     }
+    None
 }
 
-/// Whether both machines run the code so, each from the same files, and leave the same tables.
+/// Whether both machines run the code so, each from the same files, the checking machine step by step too, print the
+/// same rows, and leave the same tables.
 fn run_well(alloc: Global, case: RunCase<'_>, bytes: &[u8], budget: u64, steps: u64) -> bool {
     let mut files = MemoryFiles::new(alloc, &[], WORKS_FOR_EVER);
     let mut others = MemoryFiles::new(alloc, &[], WORKS_FOR_EVER);
-    ready(alloc, &mut files, NAME, case, bytes)
-        && ready(alloc, &mut others, NAME, case, bytes)
-        && run_alike(alloc, &mut files, case, budget, steps)
-        && saved_by_checking(alloc, &mut others, NAME, case, budget)
-        && left_alike(&files.written, &others.written)
+    if !ready(alloc, &mut files, NAME, case, bytes)
+        || !ready(alloc, &mut others, NAME, case, bytes)
+    {
+        return false;
+    }
+    let report = run_alike(alloc, &mut files, case, budget, steps);
+    let rows = saved_by_checking(alloc, &mut others, NAME, case, budget);
+    printed_alike(report, rows) && left_alike(&files.written, &others.written)
 }
 
 /// Whether the code takes the steps that a case says, if it says so, with each budget up to one more.

@@ -12,6 +12,7 @@ use code_items::laws::legal_codes;
 use file_access::{MemoryFiles, WrittenFile};
 use file_commands::read_code;
 use ndx_tree::NdxTree;
+use run_commands::Report;
 use run_laws::laws::new_stores_fit;
 use std::alloc::Global;
 use table_files::{load, save};
@@ -78,29 +79,26 @@ fn world_behind(
     Some(world)
 }
 
-/// Runs the code of this name on the checking machine step by step, as a case says, and saves what that leaves; whether
-/// it was saved.
+/// Runs the code of this name on the checking machine step by step, as a case says, and saves what that leaves. Answers
+/// the rows that it printed, or none where that can't be done.
 pub fn saved_by_checking(
     alloc: Global,
     files: &mut MemoryFiles<'_>,
     name: &str,
     case: RunCase<'_>,
     budget: u64,
-) -> bool {
-    let Some(day) = day_in(case) else {
-        return false;
-    };
+) -> Option<Vec<u8>> {
+    let day = day_in(case)?;
     let Ok(code) = read_code(alloc, files, name) else {
-        return false;
+        return None;
     };
     legal_codes();
-    match world_behind(alloc, files, &code, case, budget) {
-        Some(world) => {
-            let shape = &code.code().declared.shape;
-            save(alloc, files, shape, world.store(), day.stamp()).is_ok()
-        }
-        None => false,
+    let world = world_behind(alloc, files, &code, case, budget)?;
+    let shape = &code.code().declared.shape;
+    if save(alloc, files, shape, world.store(), day.stamp()).is_err() {
+        return None;
     }
+    world.finish(alloc).ok()
 }
 
 /// Makes the tables and the code of a case; whether that was done.
@@ -112,6 +110,14 @@ pub fn ready(
     code: &[u8],
 ) -> bool {
     lay(alloc, files, case) && put_file(alloc, files, name, code)
+}
+
+/// Whether a run printed these rows, if both are there.
+pub fn printed_alike(report: Option<Report>, rows: Option<Vec<u8>>) -> bool {
+    match (report, rows) {
+        (Some(report), Some(rows)) => report.rows.as_slice() == rows.as_slice(),
+        _ => false,
+    }
 }
 
 /// Whether the same files were written, in the same order.

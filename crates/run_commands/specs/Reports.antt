@@ -29,7 +29,7 @@ pub record IsTold (shape : Shape) (outcome : Outcome) (ended : Ended) : Type 0 w
   pub how : TellsHow shape outcome.end ended.how
   pub steps : ended.steps ≡ outcome.steps
 
--- a run of the code, tested at each instruction, over the tables that the files hold, that ended so and printed these
+-- a run of the code, on the checking machine, over the tables that the files hold, that ended so and printed these
 -- rows
 pub record IsTested (holds : Holds) (job : Job) (code : Code) (ended : Ended) (rows : List ℕ) : Type 0 where
   pub store : StoreState

@@ -139,7 +139,7 @@ impl RecordLimit {
 pub struct Job<'a> {
     /// The code's file.
     pub name: &'a str,
-    /// Whether each instruction is tested, in place of asking the verifier first. Such a run saves nothing.
+    /// Whether the checking machine runs it, in place of asking the verifier first. Such a run saves nothing.
     pub checked: bool,
     /// The most that the run may cost.
     pub budget: u64,

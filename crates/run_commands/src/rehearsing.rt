@@ -169,7 +169,7 @@ fn rehearse_any<F: Files, W: Watcher>(
     }
 }
 
-/// Rehearses an accepted code, for a job that tests no instruction.
+/// Rehearses an accepted code, for a job that the checking machine doesn't run.
 fn rehearse_accepted<F: Files, W: Watcher>(
     alloc: Global,
     files: &mut F,

@@ -1,4 +1,4 @@
-//! Runs with all tests.
+//! Runs that carry out no fault.
 
 ghost use Rattle.std.specs.Prelude.{◌≤◌};
 ghost use Rattle.code_items.specs.Legal.{IsCode};
