@@ -1,3 +1,4 @@
+pub mod Alone
 pub mod Areas
 pub mod Blocks
 pub mod Conditions

@@ -1,4 +1,5 @@
-//! What the code of an expression does where it runs. The functions do nothing: their contracts are the laws.
+//! What the code of an expression does where it runs, and where a command of one instruction is laid out. The functions
+//! do nothing: their contracts are the laws.
 
 ghost use Rattle.std.specs.Prelude.{◌≡◌, ◌&&◌, ℕ, suc, true, List, Some, length, map};
 ghost use Rattle.code_items.specs.declared.code.Code.{Code as AnyCode};
@@ -11,6 +12,11 @@ ghost use Rattle.expr_laws.specs.Seeing.{sight, HasWay, IsThere, StandsAt, with_
 ghost use Rattle.fit_laws.specs.Fits.{IsFitting};
 ghost use Rattle.prg_code.specs.Numbers.{Grows};
 ghost use Rattle.prg_expr.specs.Tree.{Tree};
+ghost use Rattle.prg_laid.specs.Acts.{ActLaid};
+ghost use Rattle.prg_laid.specs.Layout.{Laying};
+ghost use Rattle.prg_line.specs.Act.{Act, Letters};
+ghost use Rattle.prg_values.specs.OneInstr.{only_instr};
+ghost use Rattle.prg_values.specs.Placed.{InstrStands};
 ghost use Rattle.prg_values.specs.Readings.{Scoped};
 ghost use Rattle.prg_values.specs.Written.{IsWrittenExpr};
 ghost use Rattle.run_steps.specs.Filters.{filter_block, is_sound, is_unhidden, is_visible, Viewer};
@@ -89,3 +95,12 @@ pub fn filters_hold_where_their_conditions_do()
     results_have_their_kind();
     same_kinds_are_equal();
 }
+
+/// A command whose code is one instruction that the command alone tells (`only_instr`) is laid out just where that
+/// instruction stands. So the compiler, which puts it, and the judge of finished code mean the same instruction.
+pub fn lone_instructions_are_laid()
+    ensures laid { (f : Laying) (gets : List Letters) (a b : ℕ) (act : Act) (i : AnyInstr) → only_instr act ≡ Some i
+        → InstrStands f.text a i b → ActLaid f gets a act b }
+    ensures alone { (f : Laying) (gets : List Letters) (a b : ℕ) (act : Act) (i : AnyInstr) → only_instr act ≡ Some i
+        → ActLaid f gets a act b → InstrStands f.text a i b }
+{}
