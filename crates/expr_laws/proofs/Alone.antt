@@ -52,8 +52,10 @@ by_only f gets a b (act.Select (Number n)) i e =
     told f gets a b (act.Select (Number n)) (Areas (area_instr.Select n)) i e (λ s. s, λ l. l)
 by_only f gets a b (act.Select (Named name)) i e = absurd (none-some i e)
 by_only f gets a b act.CloseAll i e = told f gets a b act.CloseAll (Areas area_instr.CloseAll) i e (λ s. s, λ l. l)
-by_only f gets a b (act.SetOrder order) i e = told f gets a b (act.SetOrder order) (Areas (area_instr.Order order)) i e (λ s. s, λ l. l)
-by_only f gets a b (act.SetFilter None) i e = told f gets a b (act.SetFilter None) (Areas (area_instr.Filter 0)) i e (λ s. s, λ l. l)
+by_only f gets a b (act.SetOrder order) i e =
+    told f gets a b (act.SetOrder order) (Areas (area_instr.Order order)) i e (λ s. s, λ l. l)
+by_only f gets a b (act.SetFilter None) i e =
+    told f gets a b (act.SetFilter None) (Areas (area_instr.Filter 0)) i e (λ s. s, λ l. l)
 by_only f gets a b (act.SetFilter (Some x)) i e = absurd (none-some i e)
 by_only f gets a b (act.Set switch on) i e =
     told f gets a b (act.Set switch on) (Values (value_instr.Set (setting_of switch) on)) i e (λ s. s, λ l. l)
@@ -62,7 +64,8 @@ by_only f gets a b (act.Go Bottom) i e = told f gets a b (act.Go Bottom) (Moves 
 by_only f gets a b (act.Go (Record x)) i e = absurd (none-some i e)
 by_only f gets a b (act.Skip rows) i e = absurd (none-some i e)
 by_only f gets a b (act.Seek key) i e = absurd (none-some i e)
-by_only f gets a b act.AppendBlank i e = told f gets a b act.AppendBlank (Records record_instr.Append) i e (λ s. s, λ l. l)
+by_only f gets a b act.AppendBlank i e =
+    told f gets a b act.AppendBlank (Records record_instr.Append) i e (λ s. s, λ l. l)
 by_only f gets a b (act.Replace changes) i e = absurd (none-some i e)
 by_only f gets a b act.Delete i e = told f gets a b act.Delete (Records record_instr.Delete) i e (λ s. s, λ l. l)
 by_only f gets a b act.Recall i e = told f gets a b act.Recall (Records record_instr.Recall) i e (λ s. s, λ l. l)
