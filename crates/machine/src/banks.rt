@@ -42,7 +42,7 @@ pub struct Banks<K: KeyList> {
 impl<K: KeyList> Model for Banks<K> {
     ghost use Rattle.std.specs.Coded.{codes};
     ghost use Rattle.machine.specs.Twins.{BankState, banks_of};
-    ghost use Rattle.run_steps.specs.contracts.row_works.RowWork as any_work;
+    ghost use Rattle.run_steps.specs.contracts.row_works.TruthWork as any_work;
 
     ghost Value = { BankState };
 

@@ -61,7 +61,7 @@ fn say<K: KeyList>(kind: Kind, values: &Untagged, env: &Environment<K>) -> Optio
     ensures { (t : TaggedValues) → IsByKind values.now t → ScreenNeeds (OfSay kind) t
         → result ≡ shown_by_of (OfSay kind) t env.now }
 {
-    let length = values.top_lent(kind).shown(env.settings()).len();
+    let length = values.shown(kind, env.settings()).len();
     let place = values.place_below(kind);
     at(place.row.whole(), place.column.whole(), length)
 }
@@ -72,7 +72,7 @@ fn say_on<K: KeyList>(kind: Kind, values: &Untagged, env: &Environment<K>) -> Op
     ensures { (t : TaggedValues) → IsByKind values.now t → ScreenNeeds (OfSayOn kind) t
         → result ≡ shown_by_of (OfSayOn kind) t env.now }
 {
-    let length = values.top_lent(kind).shown(env.settings()).len();
+    let length = values.shown(kind, env.settings()).len();
     behind(env.screen().cursor(), length)
 }
 

@@ -11,7 +11,7 @@ ghost use Rattle.row_moves.specs.Moves.{IsMove, Landing, Lands, end_of};
 ghost use Rattle.open_table.specs.Passes.{at_higher_cost};
 ghost use Rattle.open_table.specs.Slots.{mark_of};
 ghost use Rattle.open_table.specs.Tables.{IsIndexed, IsOrder, indexed, order_pairs, pairs_in_order};
-ghost use Rattle.open_table.specs.Tried.{ShowsRows};
+ghost use Rattle.open_table.specs.Tried.{MayAskRows, ShowsRows};
 
 use crate::keyed::{has_order, key_of_order};
 use crate::passes::first_of;
@@ -34,7 +34,7 @@ pub(crate) fn judge<K: KeyList, F: Fn(&Row<'_>) -> bool>(
     budget: u64,
 ) -> Result<Landed, Spent>
     requires indexed { IsIndexed table.now.structure table.now.rows slots.old.items }
-    requires callable { F.IsAlwaysCallable see.now }
+    requires callable { MayAskRows F.pre see.now table.now.structure }
     requires base { base ≤ 1000000000 }
     requires paid { ¬ IsOrder order (indexed table.now.structure table.now.rows slots.old.items)
         → length table.now.rows ≤ base }
@@ -60,7 +60,7 @@ fn judge_along<K: KeyList, F: Fn(&Row<'_>) -> bool>(
 ) -> Result<Landed, Spent>
     requires indexed { IsIndexed table.now.structure table.now.rows slots.old.items }
     requires order { IsOrder order (indexed table.now.structure table.now.rows slots.old.items) }
-    requires callable { F.IsAlwaysCallable see.now }
+    requires callable { MayAskRows F.pre see.now table.now.structure }
     requires base { base ≤ 1000000000 }
     ensures lands { (shown : ℕ → Bool) → ShowsRows (FnReturnsAt F.Fn) see.now table.now.structure table.now.rows shown
         → IsMove (at_higher_cost base (end_of shown true (order_pairs order
@@ -102,7 +102,7 @@ pub(crate) fn judge_kept<K: KeyList, F: Fn(&Row<'_>) -> bool>(
     budget: u64,
 ) -> Result<Landed, Spent>
     requires indexed { IsIndexed table.now.structure table.now.rows slots.now.items }
-    requires callable { F.IsAlwaysCallable see.now }
+    requires callable { MayAskRows F.pre see.now table.now.structure }
     requires base { base ≤ 1000000000 }
     requires paid { length table.now.rows ≤ base }
     ensures { (shown : ℕ → Bool)

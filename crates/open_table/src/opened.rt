@@ -17,7 +17,7 @@ ghost use Rattle.open_table.specs.Tables.{remade, open_list};
 ghost use Rattle.open_table.specs.Marks.{mark_at, count_stale, parts_in};
 ghost use Rattle.open_table.specs.Passes.{at_higher_cost, EndsWithMove};
 ghost use Rattle.dbf_file.specs.Rows.{unmarked};
-ghost use Rattle.open_table.specs.Tried.{ShowsRows};
+ghost use Rattle.open_table.specs.Tried.{MayAskRows, ShowsRows};
 ghost use Rattle.open_table.specs.Open.{IsMoved, IsEnded, opened, closed, first_order, in_table, order_index};
 ghost use Rattle.open_table.specs.Open.{gone_to, with_blank, place_in, replaced_here, remarked_here, reordered};
 ghost use Rattle.open_table.specs.Open.{deleted_of, field_of, landed as landed_at, within, within as within_of};
@@ -206,7 +206,7 @@ impl<K: KeyList> OpenTable<K> {
         see: F,
         budget: u64,
     ) -> Result<u64, Spent>
-        requires { F.IsAlwaysCallable see }
+        requires { MayAskRows F.pre see self.old.table.structure }
         ensures { (shown : ℕ → Bool)
             → ShowsRows (FnReturnsAt F.Fn) see self.old.table.structure self.old.table.rows shown
             → IsMoved (landed_at self.old) self.old self.new (landing_of shown asked
@@ -229,7 +229,7 @@ impl<K: KeyList> OpenTable<K> {
         see: F,
         budget: u64,
     ) -> Result<u64, Spent>
-        requires callable { F.IsAlwaysCallable see }
+        requires callable { MayAskRows F.pre see self.old.table.structure }
         requires order { 1 ≤ self.old.order }
         ensures { (shown : ℕ → Bool)
             → ShowsRows (FnReturnsAt F.Fn) see self.old.table.structure self.old.table.rows shown
@@ -434,7 +434,7 @@ impl<K: KeyList> OpenTable<K> {
         see: F,
         budget: u64,
     ) -> Result<u64, Refused>
-        requires { F.IsAlwaysCallable see }
+        requires { MayAskRows F.pre see self.old.table.structure }
         ensures { (shown : ℕ → Bool)
             → ShowsRows (FnReturnsAt F.Fn) see self.old.table.structure (unmarked self.old.table.rows) shown
             → IsEnded (landed_at (in_table self.old (packed self.old.list self.old.table))) self.old self.new
@@ -466,7 +466,7 @@ impl<K: KeyList> OpenTable<K> {
         see: F,
         budget: u64,
     ) -> Result<u64, Refused>
-        requires { F.IsAlwaysCallable see }
+        requires { MayAskRows F.pre see self.old.table.structure }
         ensures { (shown : ℕ → Bool)
             → ShowsRows (FnReturnsAt F.Fn) see self.old.table.structure self.old.table.rows shown
             → IsEnded (landed_at (in_table self.old (remade self.old.list self.old.table))) self.old self.new
@@ -500,7 +500,7 @@ impl<K: KeyList> OpenTable<K> {
         see: F,
         budget: u64,
     ) -> Result<u64, Refused>
-        requires callable { F.IsAlwaysCallable see }
+        requires callable { MayAskRows F.pre see self.old.table.structure }
         requires few { length list.now ≤ 7 }
         requires declared { All (λ n. is_some (mark_at self.old.table.marks n) ≡ true) list.now }
         ensures { (shown : ℕ → Bool)
@@ -528,7 +528,7 @@ impl<K: KeyList> OpenTable<K> {
         see: F,
         budget: u64,
     ) -> Result<u64, Refused>
-        requires callable { F.IsAlwaysCallable see }
+        requires callable { MayAskRows F.pre see self.old.table.structure }
         requires declared { is_some (mark_at self.old.table.marks number) ≡ true }
         ensures { (shown : ℕ → Bool)
             → ShowsRows (FnReturnsAt F.Fn) see self.old.table.structure self.old.table.rows shown

@@ -9,7 +9,7 @@ ghost use Rattle.row_keys.specs.Lists.{index_list, kept_rows};
 ghost use Rattle.row_moves.specs.Moves.{IsMove, end_of, first_shown};
 ghost use Rattle.open_table.specs.Passes.{with_tried, lesser as lesser_of, is_met as is_met_of, count_met};
 ghost use Rattle.open_table.specs.Passes.{at_higher_cost};
-ghost use Rattle.open_table.specs.Tried.{ShowsRows};
+ghost use Rattle.open_table.specs.Tried.{MayAskRows, ShowsRows};
 
 use crate::row::Row;
 use dbf_file::Table;
@@ -85,7 +85,7 @@ fn try_row<F: Fn(&Row<'_>) -> bool>(
 ) -> Option<Entry>
     requires row { r < length table.now.rows }
     requires key { 1 ≤ length key.now → IsKey table.now.structure key.now }
-    requires callable { F.IsAlwaysCallable see.now }
+    requires callable { MayAskRows F.pre see.now table.now.structure }
     ensures { (shown : Bool)
         → ((a : Bool) → FnReturnsAt F.Fn see.now
         (record {
@@ -105,7 +105,7 @@ fn try_row<F: Fn(&Row<'_>) -> bool>(
 /// Whether a test shows row `r`, counted from 0, as record `number` of `count`.
 fn sees<F: Fn(&Row<'_>) -> bool>(see: &F, table: &Table, r: usize, number: u32, count: u32) -> bool
     requires row { r < length table.now.rows }
-    requires callable { F.IsAlwaysCallable see.now }
+    requires callable { MayAskRows F.pre see.now table.now.structure }
     ensures { (shown : Bool)
         → ((a : Bool) → FnReturnsAt F.Fn see.now
         (record {
@@ -130,7 +130,7 @@ fn first_place<F: Fn(&Row<'_>) -> bool>(
     requires few { length table.now.rows ≤ 1000000 }
     requires key { 1 ≤ length key.now → IsKey table.now.structure key.now }
     requires count { count ≡ length (kept_rows kept table.now.rows) }
-    requires callable { F.IsAlwaysCallable see.now }
+    requires callable { MayAskRows F.pre see.now table.now.structure }
     ensures { (shown : ℕ → Bool)
         → ShowsRows (FnReturnsAt F.Fn) see.now table.now.structure (kept_rows kept table.now.rows) shown
         → result ≡ first_shown shown (index_list key.now (kept_rows kept table.now.rows)) }
@@ -192,7 +192,7 @@ pub(crate) fn first_of<F: Fn(&Row<'_>) -> bool>(
 ) -> Result<Landed, Spent>
     requires few { length table.now.rows ≤ 1000000 }
     requires key { 1 ≤ length key.now → IsKey table.now.structure key.now }
-    requires callable { F.IsAlwaysCallable see.now }
+    requires callable { MayAskRows F.pre see.now table.now.structure }
     requires base { base ≤ 1000000000 }
     requires paid { length table.now.rows ≤ base }
     ensures { (shown : ℕ → Bool)

@@ -15,7 +15,7 @@ ghost use Rattle.open_table.specs.Tables.{HasDeclared, IsOrder, order_pairs, pai
 ghost use Rattle.open_table.specs.Tables.{replaced};
 ghost use Rattle.open_table.specs.Tables.{remarked, remade, packed, emptied};
 ghost use Rattle.open_table.specs.Passes.{at_higher_cost, EndsWithMove};
-ghost use Rattle.open_table.specs.Tried.{ShowsRows};
+ghost use Rattle.open_table.specs.Tried.{MayAskRows, ShowsRows};
 ghost use Rattle.xvalue.specs.Kinds.{kind_of};
 
 use crate::keyed::{has_fresh, has_slot, keys_at, stale_in};
@@ -96,7 +96,7 @@ impl<K: KeyList> IndexedTable<K> {
         budget: u64,
     ) -> Result<Landed, Spent>
         requires order { IsOrder order self.old }
-        requires callable { F.IsAlwaysCallable see.now }
+        requires callable { MayAskRows F.pre see.now self.old.structure }
         ensures lands { (shown : ℕ → Bool) → ShowsRows (FnReturnsAt F.Fn) see.now self.old.structure self.old.rows shown
             → IsMove (landing_of shown asked (pair_at order self.old pointer) (order_pairs order self.old))
             budget result }
@@ -116,7 +116,7 @@ impl<K: KeyList> IndexedTable<K> {
         budget: u64,
     ) -> Result<Landed, Spent>
         requires order { IsOrder (Some number) self.old }
-        requires callable { F.IsAlwaysCallable see.now }
+        requires callable { MayAskRows F.pre see.now self.old.structure }
         ensures lands { (shown : ℕ → Bool) → ShowsRows (FnReturnsAt F.Fn) see.now self.old.structure self.old.rows shown
             → IsMove (sought shown exact text.now (order_pairs (Some number) self.old)) budget result }
         ensures same { self.new ≡ self.old }
@@ -218,7 +218,7 @@ impl<K: KeyList> IndexedTable<K> {
         base: u64,
         budget: u64,
     ) -> Result<Landed, Spent>
-        requires callable { F.IsAlwaysCallable see.now }
+        requires callable { MayAskRows F.pre see.now self.old.structure }
         requires base { base ≤ 1000000000 }
         // Where the list of the order isn't there, the base pays for passes over the rows.
         requires paid { ¬ IsOrder order self.old → length self.old.rows ≤ base }
@@ -238,7 +238,7 @@ impl<K: KeyList> IndexedTable<K> {
         base: u64,
         budget: u64,
     ) -> Result<Landed, Spent>
-        requires callable { F.IsAlwaysCallable see.now }
+        requires callable { MayAskRows F.pre see.now self.now.structure }
         requires base { base ≤ 1000000000 }
         requires paid { length self.now.rows ≤ base }
         ensures { (shown : ℕ → Bool)
@@ -268,7 +268,7 @@ impl<K: KeyList> IndexedTable<K> {
         base: u64,
         budget: u64,
     ) -> Result<Landed, Refused>
-        requires callable { F.IsAlwaysCallable see.now }
+        requires callable { MayAskRows F.pre see.now self.old.structure }
         requires base { base ≤ 1000000000 }
         // Where the list of the order isn't there, the base pays for passes over the rows.
         requires paid { ¬ IsOrder order self.old → length self.old.rows ≤ base }
@@ -297,7 +297,7 @@ impl<K: KeyList> IndexedTable<K> {
         see: &F,
         budget: u64,
     ) -> Result<Landed, Refused>
-        requires callable { F.IsAlwaysCallable see.now }
+        requires callable { MayAskRows F.pre see.now self.old.structure }
         requires few { length list.now ≤ 7 }
         // The rows that the test is asked for are those that are kept, as they are numbered then.
         ensures lands { (shown : ℕ → Bool)
@@ -352,7 +352,7 @@ impl<K: KeyList> IndexedTable<K> {
         see: &F,
         budget: u64,
     ) -> Result<Landed, Refused>
-        requires callable { F.IsAlwaysCallable see.now }
+        requires callable { MayAskRows F.pre see.now self.old.structure }
         requires few { length list.now ≤ 7 }
         ensures lands { (shown : ℕ → Bool) → ShowsRows (FnReturnsAt F.Fn) see.now self.old.structure self.old.rows shown
             → EndsWithMove (at_higher_cost (length self.old.rows * count_stale list.now self.old.marks)
@@ -377,7 +377,7 @@ impl<K: KeyList> IndexedTable<K> {
         budget: u64,
     ) -> Result<Landed, Refused>
         requires order { IsOrder order self.old }
-        requires callable { F.IsAlwaysCallable see.now }
+        requires callable { MayAskRows F.pre see.now self.old.structure }
         requires few { length list.now ≤ 7 }
         ensures lands { (shown : ℕ → Bool) → ShowsRows (FnReturnsAt F.Fn) see.now self.old.structure self.old.rows shown
             → EndsWithMove (at_higher_cost (length self.old.rows * length list.now)
@@ -420,7 +420,7 @@ impl<K: KeyList> IndexedTable<K> {
         see: &F,
         budget: u64,
     ) -> Result<Landed, Refused>
-        requires { F.IsAlwaysCallable see.now }
+        requires { MayAskRows F.pre see.now self.old.structure }
         ensures lands { (shown : ℕ → Bool) → ShowsRows (FnReturnsAt F.Fn) see.now self.old.structure self.old.rows shown
             → EndsWithMove (at_higher_cost (length self.old.rows)
             (end_of shown true (order_pairs (Some number) self.old))) budget result }

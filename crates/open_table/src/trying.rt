@@ -7,7 +7,7 @@ ghost use Rattle.open_table.specs.Asked.{asked_landing, IsAskedIn};
 ghost use Rattle.open_table.specs.Marks.{mark_at, is_fresh};
 ghost use Rattle.open_table.specs.Slots.{SlotState, mark_of};
 ghost use Rattle.open_table.specs.Tables.{IsOrder, IsIndexed, order_pairs, order_key, indexed};
-ghost use Rattle.open_table.specs.Tried.{ShowsRows};
+ghost use Rattle.open_table.specs.Tried.{MayAskRows, ShowsRows};
 
 use crate::row::Row;
 use crate::slot::{Asked, Slot};
@@ -18,7 +18,7 @@ use row_moves::{Landed, Records, Spent, make_move};
 
 /// Whether a test shows a record, counted from 1.
 fn shows<F: Fn(&Row<'_>) -> bool>(see: &F, table: &Table, number: u32) -> bool
-    requires callable { F.IsAlwaysCallable see.now }
+    requires callable { MayAskRows F.pre see.now table.now.structure }
     requires first { 1 ≤ number }
     requires last { number ≤ length table.now.rows }
     requires few { length table.now.rows ≤ 1000000 }
@@ -55,7 +55,7 @@ pub(crate) fn carry_out<K: KeyList, F: Fn(&Row<'_>) -> bool>(
     requires indexed { IsIndexed table.now.structure table.now.rows slots.old.items }
     requires order { IsOrder order (indexed table.now.structure table.now.rows slots.old.items) }
     requires keyed { IsAskedIn order asked }
-    requires callable { F.IsAlwaysCallable see.now }
+    requires callable { MayAskRows F.pre see.now table.now.structure }
     ensures lands { (shown : ℕ → Bool) → ShowsRows (FnReturnsAt F.Fn) see.now table.now.structure table.now.rows shown
         → IsMove (asked_landing shown asked.entry
         (order_key order (indexed table.now.structure table.now.rows slots.old.items))
@@ -64,7 +64,7 @@ pub(crate) fn carry_out<K: KeyList, F: Fn(&Row<'_>) -> bool>(
 {
     index_lists();
     let test = |n: u32| -> bool
-        requires callable { F.IsAlwaysCallable see.now }
+        requires callable { MayAskRows F.pre see.now table.now.structure }
         requires few { length table.now.rows ≤ 1000000 }
         requires first { 1 ≤ n }
         requires last { n ≤ length table.now.rows }

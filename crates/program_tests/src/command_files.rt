@@ -420,6 +420,52 @@ GO TOP
          3
          1
 %ended finished 64
+#filters that make texts
+%declarations
+TABLE T
+%table T.DBF K C 3 0,N N 2 0
+ ab  1| Cd  2| ef 12|
+%each 70
+%source
+USE T
+SET FILTER TO UPPER(K) = "CD"
+GO TOP
+? RECNO()
+SET FILTER TO LEFT(LOWER(K), 1) = "c"
+GO TOP
+? RECNO()
+SET FILTER TO SUBSTR(STR(N, 4), 3, 2) = "12"
+GO TOP
+? RECNO()
+SET FILTER TO TRIM(K) + "x" = "efx"
+GO TOP
+? RECNO()
+SET FILTER TO REPLICATE(LEFT(K, 1), N) = "eee"
+GO TOP
+? RECNO()
+SET FILTER TO CHR(N + 96) = "b"
+GO TOP
+? RECNO()
+SET FILTER TO ISUPPER(LEFT(K, 1) + "a")
+GO TOP
+? RECNO()
+SET FILTER TO N > 1 .AND. STUFF(K, 1, 1, "z") = "zf"
+GO TOP
+? RECNO()
+SET FILTER TO IIF(N > 1, "q", "r") = "q"
+GO TOP
+? RECNO()
+%rows
+         2
+         2
+         3
+         3
+         3
+         2
+         2
+         3
+         2
+%ended finished 70
 #a third table where one of two is open
 %declarations
 TABLE AA

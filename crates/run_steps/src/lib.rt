@@ -30,5 +30,7 @@ pub use fault::FaultKind;
 pub use machine::{Machine, execute};
 pub use pausing::{Leg, run_to_line, takes_line};
 pub use returns::ReturnPlaces;
-pub use row_works::{FilterWorks, RowWork};
+pub use row_works::{
+    DateWork, FilterWorks, MadeText, NumberWork, PlainNumber, TextWork, TruthWork,
+};
 pub use running::run;

@@ -1,20 +1,21 @@
 //! Moves of the selected area's record pointer.
 
-ghost use Rattle.std.specs.Prelude.{◌≡◌, ℕ, Bool, Ok, Err, MatchResult, IfSome, IsSome};
+ghost use Rattle.std.specs.Prelude.{◌≡◌, ◌∷◌, [], ℕ, Bool, Ok, Err, MatchResult, IfSome, IsSome};
 ghost use Rattle.std.specs.Fn.{FnReturnsAt};
 ghost use Rattle.work_area.specs.Areas.{here, change_here};
 ghost use Rattle.work_area.specs.Calls.{MovesHere, skip_of};
 ghost use Rattle.open_table.specs.Open.{gone};
-ghost use Rattle.open_table.specs.Tried.{ShowsRows};
+ghost use Rattle.open_table.specs.Tried.{MayAskRows, ShowsRows};
 ghost use Rattle.code_rules.specs.Signature.{move_signature};
 ghost use Rattle.code_items.specs.Legal.{IsCode};
 ghost use Rattle.code_items.specs.declared.instr.Instr.TheVariants.{Moves as OfMoves};
-ghost use Rattle.run_values.specs.Tagged.{TaggedValues, dropped};
-ghost use Rattle.run_steps.specs.Effects.{whole_on_top, given_text, record_number};
+ghost use Rattle.run_values.specs.Tagged.{TaggedValues, HasOnTop, dropped};
+ghost use Rattle.xvalue.specs.declared.kind.Kind.TheVariants.{Number as OfNumber, Text as OfText};
+ghost use Rattle.run_steps.specs.Effects.{top, whole_on_top, given_text, record_number};
 ghost use Rattle.run_steps.specs.Executed.{Executed};
 ghost use Rattle.run_steps.specs.Filters.{viewing, shown_by, filter_block, is_visible as visible, RunsOnRows};
 ghost use Rattle.run_steps.specs.Needs.{FilterNeeds, FitsThere, MoveNeeds, SeekNeeds, GivenNeeds, given_of};
-ghost use Rattle.run_steps.specs.RowWorks.{IsRowWork, AreRowWorks};
+ghost use Rattle.run_steps.specs.RowWorks.{CanLook, IsRowWork, AreRowWorks};
 ghost use Rattle.run_steps.specs.Walking.{HasWalked, HasChanged};
 
 use crate::ending::Stop;
@@ -26,45 +27,39 @@ use code_items::instr::MoveInstr;
 use key_lists::KeyList;
 use open_table::Row;
 use row_moves::Spent;
-use run_values::{Lent, Values};
+use run_values::Values;
 use work_area::Store;
 use xvalue::Kind;
 
-/// The whole part of a number; without one, 0.
-fn steps(given: &Option<Lent<'_>>) -> i128
-    ensures { result ≡ whole_on_top given.now }
+/// The whole part of the number on top.
+fn whole<V: Values>(values: &V) -> i128
+    requires { (t : TaggedValues) × (V.stands values.now t × HasOnTop (OfNumber ∷ []) t.stack) }
+    ensures { (t : TaggedValues) → V.stands values.now t → HasOnTop (OfNumber ∷ []) t.stack
+        → result ≡ whole_on_top (top t) }
 {
-    match given {
-        Some(value) => match value.kind() {
-            Kind::Number => value.number().whole(),
-            _ => 0,
-        },
-        None => 0,
-    }
+    values.top_number().whole()
 }
 
-/// The record of a number's whole part; no table has one below 0 or from 2^32 on.
-fn record_given(given: &Option<Lent<'_>>) -> Option<u32>
-    ensures { result ≡ record_number (whole_on_top given.now) }
+/// The record of the whole part of the number on top; no table has one below 0 or from 2^32 on.
+fn record_given<V: Values>(values: &V) -> Option<u32>
+    requires { (t : TaggedValues) × (V.stands values.now t × HasOnTop (OfNumber ∷ []) t.stack) }
+    ensures { (t : TaggedValues) → V.stands values.now t → HasOnTop (OfNumber ∷ []) t.stack
+        → result ≡ record_number (whole_on_top (top t)) }
 {
-    let whole = steps(given);
+    let whole = whole(values);
     if 0 <= whole && whole < 1 << 32 {
         return Some(whole as u32);
     }
     None
 }
 
-/// The bytes of a text; without one, none.
-fn text<'a>(given: &'a Option<Lent<'_>>) -> &'a [u8]
-    ensures { result.now ≡ given_text given.entry.now }
+/// The bytes of the text on top.
+fn text<V: Values>(values: &V) -> &[u8]
+    requires { (t : TaggedValues) × (V.stands values.now t × HasOnTop (OfText ∷ []) t.stack) }
+    ensures { (t : TaggedValues) → V.stands values.entry.now t → HasOnTop (OfText ∷ []) t.stack
+        → result.now ≡ given_text (top t) }
 {
-    match given {
-        Some(value) => match value.kind() {
-            Kind::Text => value.text(),
-            _ => &[],
-        },
-        None => &[],
-    }
+    values.top_text()
 }
 
 /// What a move answers of its cost.
@@ -77,43 +72,47 @@ fn settled(moved: Result<u64, Spent>) -> Result<u64, Stop>
     }
 }
 
-/// Makes a move, given its operand, with a test of what is visible.
-fn walk<K: KeyList, F: Fn(&Row<'_>) -> bool>(
+/// Makes a move, whose operand, if it has one, is on top, with a test of what is visible.
+fn walk<V: Values, K: KeyList, F: Fn(&Row<'_>) -> bool>(
     store: &mut Store<K>,
     exact: bool,
     instr: MoveInstr,
-    given: &Option<Lent<'_>>,
+    values: &V,
     see: F,
     left: u64,
 ) -> Result<u64, Stop>
     requires open { IsSome (here store.old) }
     requires order { SeekNeeds instr store.old }
-    requires callable { F.IsAlwaysCallable see }
-    ensures { IfSome (here store.old) (λ o. (shown : ℕ → Bool)
+    requires given { (t : TaggedValues) × (V.stands values.now t × GivenNeeds instr t) }
+    requires callable { IfSome (here store.old) (λ o. MayAskRows F.pre see o.table.structure) }
+    ensures { (t : TaggedValues) → V.stands values.now t → GivenNeeds instr t
+        → IfSome (here store.old) (λ o. (shown : ℕ → Bool)
         → ShowsRows (FnReturnsAt F.Fn) see o.table.structure o.table.rows shown
-        → HasWalked instr given.now exact store.old o shown left result store.new) }
+        → HasWalked instr (given_of instr t) exact store.old o shown left result store.new) }
 {
     match instr {
         MoveInstr::Top => settled(store.top(see, left)),
         MoveInstr::Bottom => settled(store.bottom(see, left)),
-        MoveInstr::Skip => settled(skip(store, given, see, left)),
-        MoveInstr::Go => go(store, record_given(given), see, left),
-        MoveInstr::Seek => settled(store.seek(text(given), exact, see, left)),
+        MoveInstr::Skip => settled(skip(store, values, see, left)),
+        MoveInstr::Go => go(store, record_given(values), see, left),
+        MoveInstr::Seek => settled(store.seek(text(values), exact, see, left)),
     }
 }
 
-/// SKIP, by the whole part of a number.
-fn skip<K: KeyList, F: Fn(&Row<'_>) -> bool>(
+/// SKIP, by the whole part of the number on top.
+fn skip<V: Values, K: KeyList, F: Fn(&Row<'_>) -> bool>(
     store: &mut Store<K>,
-    given: &Option<Lent<'_>>,
+    values: &V,
     see: F,
     left: u64,
 ) -> Result<u64, Spent>
     requires open { IsSome (here store.old) }
-    requires callable { F.IsAlwaysCallable see }
-    ensures { MovesHere (FnReturnsAt F.Fn) see (skip_of (whole_on_top given.now)) store.old store.new left result }
+    requires given { (t : TaggedValues) × (V.stands values.now t × HasOnTop (OfNumber ∷ []) t.stack) }
+    requires callable { IfSome (here store.old) (λ o. MayAskRows F.pre see o.table.structure) }
+    ensures { (t : TaggedValues) → V.stands values.now t → HasOnTop (OfNumber ∷ []) t.stack
+        → MovesHere (FnReturnsAt F.Fn) see (skip_of (whole_on_top (top t))) store.old store.new left result }
 {
-    store.skip(steps(given), see, left)
+    store.skip(whole(values), see, left)
 }
 
 /// GO, which meets no row.
@@ -130,18 +129,6 @@ fn go<K: KeyList, F: Fn(&Row<'_>) -> bool>(
     match store.go(number, see, left) {
         Ok(paid) => Ok(paid),
         Err(Spent) => Err(Stop::Spent),
-    }
-}
-
-/// The operand of a move, if it has one; it stays on the stack.
-fn operand<V: Values>(values: &V, instr: MoveInstr) -> Option<Lent<'_>>
-    requires { (t : TaggedValues) × (V.stands values.now t × GivenNeeds instr t) }
-    ensures { (t : TaggedValues) → V.stands values.now t → GivenNeeds instr t → result ≡ given_of instr t }
-{
-    match instr {
-        MoveInstr::Top | MoveInstr::Bottom => None,
-        MoveInstr::Skip | MoveInstr::Go => Some(values.top_lent(Kind::Number)),
-        MoveInstr::Seek => Some(values.top_lent(Kind::Text)),
     }
 }
 
@@ -164,7 +151,6 @@ fn look_and_walk<V: Values, K: KeyList>(
     view: &View<'_, V>,
     store: &mut Store<K>,
     instr: MoveInstr,
-    given: &Option<Lent<'_>>,
     left: u64,
 ) -> Result<u64, Stop>
     requires block { view.now.block.now ≡ filter_block view.now.code.now view.now.filter }
@@ -172,10 +158,13 @@ fn look_and_walk<V: Values, K: KeyList>(
     requires open { IsSome (here store.old) }
     requires order { SeekNeeds instr store.old }
     requires filter { (t : TaggedValues)
-        × (V.stands view.now.values.now t × FilterNeeds view.now.code.now t view.now.filter) }
+        × (V.stands view.now.values.now t × FilterNeeds view.now.code.now t view.now.filter
+        × FitsThere view.now.code.now (viewing t view.now.moment) view.now.filter (here store.old)
+        × GivenNeeds instr t) }
     ensures { (t : TaggedValues) → V.stands view.now.values.now t → FilterNeeds view.now.code.now t view.now.filter
         → FitsThere view.now.code.now (viewing t view.now.moment) view.now.filter (here store.old)
-        → IfSome (here store.old) (λ o. HasWalked instr given.now view.now.moment.settings.exact store.old o
+        → GivenNeeds instr t
+        → IfSome (here store.old) (λ o. HasWalked instr (given_of instr t) view.now.moment.settings.exact store.old o
         (shown_by view.now.code.now (viewing t view.now.moment) view.now.filter o.table.structure o.table.rows) left
         result store.new) }
 {
@@ -183,12 +172,12 @@ fn look_and_walk<V: Values, K: KeyList>(
         store,
         view.moment.settings.exact,
         instr,
-        given,
+        view.values,
         |row: &Row<'_>| -> bool
             requires block { view.now.block.now ≡ filter_block view.now.code.now view.now.filter }
             requires work { IfSome view.now.work (λ work. IsRowWork view.now.code.now view.now.block.now work.now) }
-            requires filter { (t : TaggedValues)
-                × (V.stands view.now.values.now t × FilterNeeds view.now.code.now t view.now.filter) }
+            requires filter { CanLook view.now.code.now (V.stands view.now.values.now) view.now.moment
+                view.now.filter row.now.structure }
             ensures { (t : TaggedValues) → V.stands view.entry.now.values.now t
                 → FilterNeeds view.entry.now.code.now t view.entry.now.filter
                 → RunsOnRows view.entry.now.code.now (viewing t view.entry.now.moment) view.entry.now.filter
@@ -215,9 +204,8 @@ pub fn on_moves<V: Values, K: KeyList>(
         → Executed code.now (OfMoves instr) t env.old left result (V.stands values.new) env.new }
     ensures registers { V.registers values.new ≡ V.registers values.old }
 {
-    let given = operand(values, instr);
     let view = View::new(code, filters, values, env.moment(), env.filter_here());
-    let cost = look_and_walk(&view, &mut env.store, instr, &given, left)?;
+    let cost = look_and_walk(&view, &mut env.store, instr, left)?;
     take_operand(values, instr);
     Ok(cost)
 }

@@ -6,6 +6,7 @@ ghost use Rattle.dbf_file.specs.Rows.{Row as TheRow};
 ghost use Rattle.dbf_file.specs.Tables.{StructureState, letter_at};
 ghost use Rattle.dbf_file.specs.Values.{kind_for};
 ghost use Rattle.open_table.specs.Open.{field_of};
+ghost use Rattle.open_table.specs.Tried.{MayAskRows};
 ghost use Rattle.work_area.specs.Areas.{here, area_table};
 ghost use Rattle.code_items.specs.Legal.{IsCode};
 ghost use Rattle.code_items.specs.declared.instr.Instr.TheVariants.{Records as OfRecords};
@@ -17,7 +18,7 @@ ghost use Rattle.run_steps.specs.Executed.{Executed};
 ghost use Rattle.run_steps.specs.Filters.{viewing, shown_by, filter_block, is_visible as visible, RunsOnRows};
 ghost use Rattle.run_steps.specs.Needs.{FilterNeeds, HasField, TakesField, RecordNeeds, ClosingNeeds};
 ghost use Rattle.run_steps.specs.Needs.{HasRoom, FitsThere, Walks, closing_instr};
-ghost use Rattle.run_steps.specs.RowWorks.{IsRowWork, AreRowWorks};
+ghost use Rattle.run_steps.specs.RowWorks.{CanLook, IsRowWork, AreRowWorks};
 ghost use Rattle.run_steps.specs.Walking.{HasChanged, HasReplaced, ShowsAll};
 
 use crate::ending::Stop;
@@ -163,7 +164,7 @@ fn close_with<K: KeyList, F: Fn(&Row<'_>) -> bool>(
 ) -> Result<u64, Stop>
     requires open { IsSome (here store.old) }
     requires needs { ClosingNeeds code.now (closing_instr closing) store.old }
-    requires callable { F.IsAlwaysCallable see }
+    requires callable { IfSome (here store.old) (λ o. MayAskRows F.pre see o.table.structure) }
     ensures { IfSome (here store.old) (λ o. (shown : StructureState → List TheRow → ℕ → Bool)
         → ShowsAll (FnReturnsAt F.Fn) see o.table.structure shown
         → HasChanged (closing_store code.now.declared (closing_instr closing) shown o store.old)
@@ -196,7 +197,8 @@ fn look_and_close<V: Values, K: KeyList>(
     requires open { IsSome (here store.old) }
     requires needs { ClosingNeeds view.now.code.now (closing_instr closing) store.old }
     requires filter { (t : TaggedValues)
-        × (V.stands view.now.values.now t × FilterNeeds view.now.code.now t view.now.filter) }
+        × (V.stands view.now.values.now t × FilterNeeds view.now.code.now t view.now.filter
+        × FitsThere view.now.code.now (viewing t view.now.moment) view.now.filter (here store.old)) }
     ensures { (t : TaggedValues) → V.stands view.now.values.now t → FilterNeeds view.now.code.now t view.now.filter
         → FitsThere view.now.code.now (viewing t view.now.moment) view.now.filter (here store.old)
         → IfSome (here store.old) (λ o. HasChanged
@@ -213,8 +215,8 @@ fn look_and_close<V: Values, K: KeyList>(
         |row: &Row<'_>| -> bool
             requires block { view.now.block.now ≡ filter_block view.now.code.now view.now.filter }
             requires work { IfSome view.now.work (λ work. IsRowWork view.now.code.now view.now.block.now work.now) }
-            requires filter { (t : TaggedValues)
-                × (V.stands view.now.values.now t × FilterNeeds view.now.code.now t view.now.filter) }
+            requires filter { CanLook view.now.code.now (V.stands view.now.values.now) view.now.moment
+                view.now.filter row.now.structure }
             ensures { (t : TaggedValues) → V.stands view.entry.now.values.now t
                 → FilterNeeds view.entry.now.code.now t view.entry.now.filter
                 → RunsOnRows view.entry.now.code.now (viewing t view.entry.now.moment) view.entry.now.filter

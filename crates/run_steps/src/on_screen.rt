@@ -26,7 +26,7 @@ fn say<V: Values, K: KeyList>(values: &mut V, env: &mut Environment<K>, kind: Ki
         → V.stands values.new (dropped 3 t) × (env.new ≡ screen_env (OfSay kind) t env.old) }
     ensures registers { V.registers values.new ≡ V.registers values.old }
 {
-    let text = values.top_lent(kind).shown(env.settings());
+    let text = values.shown(kind, env.settings());
     values.discard(kind);
     let column = values.pop_number().whole();
     let row = values.pop_number().whole();
@@ -40,7 +40,7 @@ fn say_on<V: Values, K: KeyList>(values: &mut V, env: &mut Environment<K>, kind:
         → V.stands values.new (dropped 1 t) × (env.new ≡ screen_env (OfSayOn kind) t env.old) }
     ensures registers { V.registers values.new ≡ V.registers values.old }
 {
-    let text = values.top_lent(kind).shown(env.settings());
+    let text = values.shown(kind, env.settings());
     values.discard(kind);
     env.say_on(&text);
 }
@@ -71,7 +71,7 @@ fn print<V: Values, K: KeyList>(
         → Executed code (OfScreen (OfPrint kind)) t env.old left result (V.stands values.new) env.new }
     ensures registers { V.registers values.new ≡ V.registers values.old }
 {
-    let text = values.top_lent(kind).shown(env.settings());
+    let text = values.shown(kind, env.settings());
     if env.print(&text).is_err() {
         return Err(Stop::NoMemory);
     }

@@ -15,7 +15,7 @@ use fixed_num::Num;
 use std::alloc::{AllocError, Global};
 use std::marker::Model;
 use xvalue::laws::{arguments_are_few, results_have_their_kind};
-use xvalue::{Fun, Kind, Settings, Value};
+use xvalue::{Fun, Kind, Settings, Text, Value};
 
 /// Slots and a stack of values with their kinds, and registers.
 #[derive(Drop)]
@@ -111,8 +111,16 @@ impl Values for Tagged {
         self.stack.push(value.kind());
     }
 
-    fn top_lent(&self, kind: Kind) -> Lent<'_> {
-        self.values.top_lent(kind)
+    fn top_number(&self) -> Num {
+        self.values.top_number()
+    }
+
+    fn top_text(&self) -> &[u8] {
+        self.values.top_text()
+    }
+
+    fn shown(&self, kind: Kind, settings: Settings) -> Text {
+        self.values.shown(kind, settings)
     }
 
     fn truth(&self) -> bool {

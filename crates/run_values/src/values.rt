@@ -1,8 +1,10 @@
 //! What instructions ask of a machine's values.
 
-ghost use Rattle.std.specs.Prelude.{◌≡◌, ◌<◌, ◌≤◌, ◌∷◌, [], length, slice_get, slice_set, Some, None, true};
-ghost use Rattle.xvalue.specs.declared.kind.Kind.TheVariants.{Number as OfNumber, Logical as OfLogical};
-ghost use Rattle.xvalue.specs.declared.value.Value.TheVariants.{Number as IsNumber, Logical as IsLogical};
+ghost use Rattle.std.specs.Prelude.{◌≡◌, ◌<◌, ◌≤◌, ◌∷◌, [], length, slice_get, slice_set, Some, None, true, IfSome};
+ghost use Rattle.xvalue.specs.declared.kind.Kind.TheVariants.{Number as OfNumber, Text as OfText, Logical as OfLogical};
+ghost use Rattle.xvalue.specs.declared.value.Value.TheVariants.{Number as IsNumber, Text as IsText};
+ghost use Rattle.xvalue.specs.declared.value.Value.TheVariants.{Logical as IsLogical};
+ghost use Rattle.xvalue.specs.Shown.{shown as shown_of};
 ghost use Rattle.run_values.specs.Tagged.{TaggedValues, HasOnTop, HasArguments, HoldsKind, pushed, dropped, with_slot};
 ghost use Rattle.run_values.specs.Tagged.{loaded, stored, called};
 ghost use Rattle.run_values.specs.Operands.{RegisterState, HoldsConstants, sources_of, NumberThere, TruthThere};
@@ -12,7 +14,7 @@ ghost use Rattle.run_values.specs.Operands.{values_with, registers_with};
 use crate::lent::Lent;
 use crate::operands::Operand;
 use fixed_num::Num;
-use xvalue::{Fun, Kind, Settings, Value};
+use xvalue::{Fun, Kind, Settings, Text, Value};
 
 /// Slots and a stack. Whether they keep the kinds of what they hold is theirs: they stand for values that have them,
 /// perhaps for many. No call takes memory.
@@ -46,11 +48,23 @@ pub trait Values: Drop {
         ensures stands { (t : TaggedValues) → stands self.old t → stands self.new (pushed value.now t) }
         ensures registers { registers self.new ≡ registers self.old };
 
-    /// The value on top, which is of this kind, lent from there.
-    fn top_lent(&self, kind: Kind) -> Lent<'_>
+    /// The number on top; it stays.
+    fn top_number(&self) -> Num
+        requires { (t : TaggedValues) × (stands self.now t × HasOnTop (OfNumber ∷ []) t.stack) }
+        ensures { (t : TaggedValues) → stands self.now t → HasOnTop (OfNumber ∷ []) t.stack
+            → slice_get t.stack 0 ≡ Some (IsNumber result) };
+
+    /// The bytes of the text on top, lent from there.
+    fn top_text(&self) -> &[u8]
+        requires { (t : TaggedValues) × (stands self.now t × HasOnTop (OfText ∷ []) t.stack) }
+        ensures { (t : TaggedValues) → stands self.now t → HasOnTop (OfText ∷ []) t.stack
+            → slice_get t.stack 0 ≡ Some (IsText (record { items = result.now })) };
+
+    /// The text that the screen shows of the value on top, which is of this kind. It stays.
+    fn shown(&self, kind: Kind, settings: Settings) -> Text
         requires { (t : TaggedValues) × (stands self.now t × HasOnTop (kind ∷ []) t.stack) }
         ensures { (t : TaggedValues) → stands self.now t → HasOnTop (kind ∷ []) t.stack
-            → slice_get t.stack 0 ≡ Some result };
+            → IfSome (slice_get t.stack 0) (λ value. result.items ≡ shown_of settings value) };
 
     /// The truth value on top; it stays.
     fn truth(&self) -> bool

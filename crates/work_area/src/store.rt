@@ -12,7 +12,7 @@ ghost use Rattle.open_table.specs.Open.{closed, with_blank, replaced_here, remar
 ghost use Rattle.open_table.specs.Open.{current_row, place_in};
 ghost use Rattle.open_table.specs.Open.{IsEnded, deleted_of, opened};
 ghost use Rattle.open_table.specs.Marks.{mark_at, is_fresh, parts_in, form_in};
-ghost use Rattle.open_table.specs.Tried.{ShowsRows};
+ghost use Rattle.open_table.specs.Tried.{MayAskRows, ShowsRows};
 ghost use Rattle.work_area.specs.Areas.{use_at, selected_use, table_at, area_table, here, with_use, with_selected};
 ghost use Rattle.work_area.specs.Areas.{with_here, change_here, closed_here, closed_all, is_elsewhere, holds};
 ghost use Rattle.work_area.specs.Areas.{index_table, mark_in, closed_other, OpenIndexesList};
@@ -202,7 +202,7 @@ impl<K: KeyList> Store<K> {
     /// TOP, and what it cost. Where the cost is above the budget nothing changes.
     pub fn top<F: Fn(&Row<'_>) -> bool>(&mut self, see: F, budget: u64) -> Result<Moved, Spent>
         requires open { IsSome (here self.old) }
-        requires callable { F.IsAlwaysCallable see }
+        requires callable { IfSome (here self.old) (λ o. MayAskRows F.pre see o.table.structure) }
         ensures { MovesHere (FnReturnsAt F.Fn) see top_of self.old self.new budget result }
     {
         let t = self.place_here();
@@ -212,7 +212,7 @@ impl<K: KeyList> Store<K> {
     /// BOTTOM, and what it cost. Where the cost is above the budget nothing changes.
     pub fn bottom<F: Fn(&Row<'_>) -> bool>(&mut self, see: F, budget: u64) -> Result<Moved, Spent>
         requires open { IsSome (here self.old) }
-        requires callable { F.IsAlwaysCallable see }
+        requires callable { IfSome (here self.old) (λ o. MayAskRows F.pre see o.table.structure) }
         ensures { MovesHere (FnReturnsAt F.Fn) see bottom_of self.old self.new budget result }
     {
         let t = self.place_here();
@@ -228,7 +228,7 @@ impl<K: KeyList> Store<K> {
         budget: u64,
     ) -> Result<Moved, Spent>
         requires open { IsSome (here self.old) }
-        requires callable { F.IsAlwaysCallable see }
+        requires callable { IfSome (here self.old) (λ o. MayAskRows F.pre see o.table.structure) }
         ensures { MovesHere (FnReturnsAt F.Fn) see (skip_of steps) self.old self.new budget result }
     {
         let t = self.place_here();
@@ -246,7 +246,7 @@ impl<K: KeyList> Store<K> {
     ) -> Result<Moved, Spent>
         requires open { IsSome (here self.old) }
         requires order { IfSome (here self.old) (λ o. 1 ≤ o.order) }
-        requires callable { F.IsAlwaysCallable see }
+        requires callable { IfSome (here self.old) (λ o. MayAskRows F.pre see o.table.structure) }
         ensures { MovesHere (FnReturnsAt F.Fn) see (seek_of exact text.now) self.old self.new budget result }
     {
         let t = self.place_here();
@@ -330,7 +330,7 @@ impl<K: KeyList> Store<K> {
         budget: u64,
     ) -> Result<Moved, Refused>
         requires open { IsSome (here self.old) }
-        requires callable { F.IsAlwaysCallable see }
+        requires callable { IfSome (here self.old) (λ o. MayAskRows F.pre see o.table.structure) }
         ensures { EndsHere (FnReturnsAt F.Fn) see packed_rows packed_in pack_of self.old self.new budget result }
     {
         let t = self.place_here();
@@ -361,7 +361,7 @@ impl<K: KeyList> Store<K> {
         budget: u64,
     ) -> Result<Moved, Refused>
         requires open { IsSome (here self.old) }
-        requires callable { F.IsAlwaysCallable see }
+        requires callable { IfSome (here self.old) (λ o. MayAskRows F.pre see o.table.structure) }
         ensures { EndsHere (FnReturnsAt F.Fn) see all_rows reindexed_in reindex_of self.old self.new budget result }
     {
         let t = self.place_here();
@@ -380,7 +380,7 @@ impl<K: KeyList> Store<K> {
     ) -> Result<Moved, Refused>
         requires open { IsSome (here self.old) }
         requires declared { IfSome (here self.old) (λ o. is_some (mark_at o.table.marks number) ≡ true) }
-        requires callable { F.IsAlwaysCallable see }
+        requires callable { IfSome (here self.old) (λ o. MayAskRows F.pre see o.table.structure) }
         ensures { IfSome (here self.old) (λ o. (shown : ℕ → Bool)
             → ShowsRows (FnReturnsAt F.Fn) see o.table.structure o.table.rows shown
             → IsEnded (put_landed (indexed_here list) (opened (number ∷ []) o) self.old)
@@ -442,7 +442,7 @@ impl<K: KeyList> Store<K> {
         requires few { length indexes.now ≤ 7 }
         requires declared { IfSome (table_at self.old table)
             (λ o. list_all (λ n. is_some (mark_at o.table.marks n)) indexes.now ≡ true) }
-        requires callable { F.IsAlwaysCallable see }
+        requires callable { IfSome (table_at self.old table) (λ o. MayAskRows F.pre see o.table.structure) }
         ensures { IfSome (table_at self.old table)
             (λ o. (shown : ℕ → Bool) → ShowsRows (FnReturnsAt F.Fn) see o.table.structure o.table.rows shown
             → IsEnded (put_landed (used_here table list) (opened indexes.now o) self.old)

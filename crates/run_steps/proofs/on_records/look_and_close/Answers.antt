@@ -2,8 +2,28 @@ use Rattle.std.proofs.Common.{sym, ap, subst, ◌∙◌}
 use Rattle.open_table.specs.Tried.{TriedRow}
 use Rattle.work_area.specs.Areas.{here}
 use Rattle.run_steps.specs.Filters.{viewing, shown_by, is_visible, RunsOnRows}
-use Rattle.run_steps.proofs.Walks.{both_there}
+use Rattle.run_steps.proofs.Walks.{both_there, may_there}
 use Rattle.run_steps.proofs.on_records.look_and_close.Goals as goal
+
+pub close_with-requires-clause-callable : goal.close_with-requires-clause-callable
+close_with-requires-clause-callable g c =
+    let view = c.args.view.now in
+    let can = c.requires.filter in
+    may_there (here c.args.store.now) can.1.2 (λ o fits r same. (
+      c.requires.block,
+      (
+        c.requires.work,
+        (
+          can.0,
+          (
+            can.1.0,
+            can.1.1,
+            subst (RunsOnRows view.code.now (viewing can.0 view.moment) view.filter) (sym same)
+                fits,
+          ),
+        ),
+      ),
+    ))
 
 pub returns : goal.returns
 returns g c = λ t s n fits.

@@ -12,7 +12,7 @@ use Rattle.run_values.proofs.calling.end_of_text.Goals as goal
 
 pub returns-in-ToText-Left-clause-short : goal.returns-in-ToText-Left-clause-short
 returns-in-ToText-Left-clause-short c = omega
-    (arith, c.requires, ap length c.front.ensures, length-take c.count_of.result c.args.text.now)
+    (arith, c.requires.short, ap length c.front.ensures, length-take c.count_of.result c.args.text.now)
 
 pub returns-in-ToText-Left-clause-given : goal.returns-in-ToText-Left-clause-given
 unfolding applied
@@ -30,7 +30,7 @@ returns-in-ToText-Left-clause-given c = λ settings.
 pub returns-in-ToText-Right-clause-short : goal.returns-in-ToText-Right-clause-short
 returns-in-ToText-Right-clause-short c = omega (
   arith,
-  c.requires,
+  c.requires.short,
   ap length c.last_part.ensures,
   length-drop (length c.args.text.now - c.count_of-in-ToText-Right.result) c.args.text.now,
 )

@@ -18,7 +18,7 @@ returns-in-ToText-Trim-clause-given c = λ settings.
     (record {
       many = refl;
       same = short_part _ _ c.without_last_blanks.ensures.same
-          (omega (arith, c.requires, c.without_last_blanks.ensures.shorter));
+          (omega (arith, c.requires.short, c.without_last_blanks.ensures.shorter));
     })
 
 pub returns-in-ToText-Ltrim-clause-given : goal.returns-in-ToText-Ltrim-clause-given
@@ -31,5 +31,5 @@ returns-in-ToText-Ltrim-clause-given c = λ settings.
     (record {
       many = refl;
       same = short_part _ _ c.without_blanks.ensures.same
-          (omega (arith, c.requires, c.without_blanks.ensures.shorter));
+          (omega (arith, c.requires.short, c.without_blanks.ensures.shorter));
     })

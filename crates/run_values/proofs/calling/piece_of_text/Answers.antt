@@ -10,17 +10,17 @@ use Rattle.run_values.specs.Calling.{IsGiven}
 use Rattle.run_values.proofs.TextCalls.{short_part, cut_shorter}
 use Rattle.run_values.proofs.calling.piece_of_text.Goals as goal
 
-pub returns-in-ToText-Substr-clause-short : goal.returns-in-ToText-Substr-clause-short
-returns-in-ToText-Substr-clause-short c = omega (
+pub returns-clause-short : goal.returns-clause-short
+returns-clause-short c = omega (
   arith,
-  c.requires,
+  c.requires.short,
   ap length c.part_from.ensures,
   cut_shorter c.count_of.result c.count_of-in-ToText-Substr.result c.args.text.now,
 )
 
-pub returns-in-ToText-Substr-clause-given : goal.returns-in-ToText-Substr-clause-given
+pub returns-clause-given : goal.returns-clause-given
 unfolding applied
-returns-in-ToText-Substr-clause-given c = λ settings.
+returns-clause-given c = λ settings.
     let is = c.in-ToText-Substr.is
     ∙ ap (λ (f : TextFun). ToText f) (rw c.in-ToText-Substr.is at c.in-ToText-Substr.field-0-is) in
     subst (λ (f : Fun). IsGiven f settings
@@ -33,5 +33,5 @@ returns-in-ToText-Substr-clause-given c = λ settings.
           ∙ ap (λ k. bytes_cut_from k c.count_of-in-ToText-Substr.result c.args.text.now) c.count_of.ensures
           ∙ ap (λ k. bytes_cut_from (count_of (whole_part c.args.place)) k c.args.text.now)
           c.count_of-in-ToText-Substr.ensures)
-          (returns-in-ToText-Substr-clause-short c);
+          (returns-clause-short c);
     })
