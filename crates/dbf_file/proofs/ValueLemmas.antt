@@ -27,6 +27,13 @@ use Rattle.dbf_file.specs.Tables.{TableState, row_widths}
 use Rattle.dbf_file.proofs.TableLemmas.{state}
 use Rattle.dbf_file.proofs.FileLemmas.{good_fields}
 
+-- the kind of a field's value, by its letter
+pub value_kind : (l : Letter) (decimals : ℕ) (text : List ℕ) → kind_of (value_by l decimals text) ≡ kind_for l
+value_kind C decimals text = refl
+value_kind N decimals text = refl
+value_kind D decimals text = refl
+value_kind L decimals text = refl
+
 -- ---- laws on fields and rows
 
 each_good : (fields earlier : List Field) → fields_go_on earlier fields ≡ true
@@ -193,34 +200,15 @@ pub shape_of : (f : Field) → is_field f ≡ true → has_shape f.letter f.widt
 unfolding is_field
 shape_of f good = (and_parts _ _ good).1
 
--- ---- the fields of a table
+-- ---- a value that is written
 
-each_at : (fields : List Field) (f : ℕ) (x : Field) → AllByRecursion (λ g. is_field g ≡ true) fields → f < length fields
-    → x ≡ get_or fields f x → is_field x ≡ true
-each_at [] f x each below at = absurd (omega arith)
-each_at (g ∷ gs) zero x each below at = ap is_field at ∙ each.0
-each_at (g ∷ gs) (suc f) x each below at = each_at gs f x each.1 (omega arith) at
-
-pub shape_at : (fields there : List Field) (f : ℕ) (x copy : Field) → are_fields fields ≡ true → f < length fields
-    → there ≡ fields → x ≡ get_or there f x → copy ≡ x → has_shape copy.letter copy.width copy.decimals ≡ true
-shape_at fields there f x copy are below same at copied =
-    shape_of copy (ap is_field copied ∙ each_at fields f x (fields_are_good fields are) below
-    (at ∙ ap (λ (xs : List Field). get_or xs f x) same))
-
-pub value_is : (f : Field) (letter : Letter) (decimals : ℕ) (text wanted : List ℕ) → f.letter ≡ letter
-    → f.decimals ≡ decimals → text ≡ wanted → value_of f text ≡ value_by letter decimals wanted
-unfolding value_of
-value_is f letter decimals text wanted a b c = ap (λ (l : Letter). value_by l f.decimals text) a
-    ∙ ap (λ d. value_by letter d text) b ∙ ap (value_by letter decimals) c
-
-pub put_is : (t : TableState) (r f : ℕ) (field : Field) (v : Value) (width decimals : ℕ) (text : List ℕ)
-    → text ≡ text_for field v → length text ≡ get_or (row_widths t.structure) f 0 → field.width ≡ width
-    → field.decimals ≡ decimals →
+pub put_is : (t : TableState) (r f : ℕ) (v : Value) (width decimals decimals' : ℕ) (text : List ℕ)
+    → text ≡ text_by width decimals v → length text ≡ get_or (row_widths t.structure) f 0
+    → width ≡ get_or (row_widths t.structure) f 0 → decimals ≡ decimals' →
     state t.structure (rows_left (row_widths t.structure) t.rows r f text) t.spare
-    ≡ record t { rows = with_text t.rows r f (text_by width decimals v) }
-unfolding text_for
-put_is t r f field v width decimals text made fits a b =
+    ≡ record t { rows = with_text t.rows r f (text_by (get_or (row_widths t.structure) f 0) decimals' v) }
+put_is t r f v width decimals decimals' text made fits a b =
     let rows : List Row → TableState = λ rs. state t.structure rs t.spare in
     ap rows (texts_are_left (row_widths t.structure) t.rows r f text fits)
     ∙ ap (λ (xs : List ℕ). rows (with_text t.rows r f xs))
-    (made ∙ ap (λ k. text_by k field.decimals v) a ∙ ap (λ k. text_by width k v) b)
+    (made ∙ ap (λ k. text_by k decimals v) a ∙ ap (λ k. text_by (get_or (row_widths t.structure) f 0) k v) b)

@@ -5,7 +5,7 @@ ghost use Rattle.std.specs.Prelude.{slice_range, IsTrue, IfOk, OnOk, OnErr, Matc
 ghost use Rattle.std.specs.Prelude.{true};
 ghost use Rattle.std.specs.Borrow.{sem};
 ghost use Rattle.dbf_file.specs.declared.stamp.Stamp.{Stamp as TheStamp};
-ghost use Rattle.dbf_file.specs.Fields.{widths_of, size_of as size_of_fields, are_fields, has_shape};
+ghost use Rattle.dbf_file.specs.Fields.{widths_of, size_of as size_of_fields, are_fields};
 ghost use Rattle.dbf_file.specs.Descriptors.{field_head_text};
 ghost use Rattle.dbf_file.specs.Rows.{Row, rows_in, is_marked_at, text_at, with_text, with_mark, blank_row, unmarked};
 ghost use Rattle.dbf_file.specs.Tables.{StructureState, IsStructure, AreRows, DbfText, dbf_text, row_widths};
@@ -21,13 +21,13 @@ use crate::field::{Field, size_of, width_of};
 use crate::reading::{LIVE, Layout, MARKED, layout_of};
 use crate::stamp::Stamp;
 use crate::structure::Structure;
-use crate::values::{begins_with_yes, day_in, number_in, put, value};
+use crate::values::{begins_with_yes, day_in, number_in, put_by, value_by};
 use crate::writing::{mark_byte, put_descriptors, put_end, put_front, put_rows, put_zeros};
 use calendar::Day;
 use fixed_num::Num;
 use std::alloc::{AllocError, Global};
 use std::marker::Model;
-use xvalue::Value;
+use xvalue::{Lent, Value};
 
 /// The byte behind the last row of a file.
 const LAST: u8 = 26;
@@ -187,16 +187,12 @@ fn span_of(structure: &Structure, size: usize, rows: usize, r: usize, f: usize) 
     (start, start + width_of(fields, f))
 }
 
-/// Field `f` once more.
-fn good_field(structure: &Structure, f: usize) -> Field
-    requires good { IsStructure structure.now }
-    requires field { f < length structure.now.fields }
-    ensures letter { result.letter ≡ letter_at structure.now f }
-    ensures width { result.width ≡ slice_index (row_widths structure.now) f }
-    ensures decimals { result.decimals ≡ decimals_at structure.now f }
-    ensures shape { has_shape result.letter result.width result.decimals ≡ true }
+/// How many decimals field `f` has.
+fn decimals_of(structure: &Structure, f: usize) -> u8
+    requires { f < length structure.now.fields }
+    ensures { result ≡ decimals_at structure.now f }
 {
-    structure.fields()[f].copied()
+    structure.fields()[f].decimals
 }
 
 /// Where row `r` begins among so many rows of `size` bytes.
@@ -323,8 +319,8 @@ impl Table {
         ensures { result ≡ value_by (letter_at self.now.structure f) (decimals_at self.now.structure f)
             (text_at self.now.rows r f) }
     {
-        let field = good_field(&self.structure, f);
-        value(&field, self.field(r, f))
+        let field = &self.structure.fields()[f];
+        value_by(field.letter, field.decimals, self.field(r, f))
     }
 
     /// The number that the text of field `f` in row `r` stands for, both counted from 0.
@@ -355,7 +351,7 @@ impl Table {
     }
 
     /// Writes a value of the field's kind into field `f` of row `r`, both counted from 0. Nothing else changes.
-    pub fn put_at(&mut self, r: usize, f: usize, from: &Value)
+    pub fn put_at(&mut self, r: usize, f: usize, from: &Lent<'_>)
         requires row { r < length self.old.rows }
         requires field { f < length self.old.structure.fields }
         requires kind { kind_of from.now ≡ kind_for (letter_at self.old.structure f) }
@@ -364,9 +360,9 @@ impl Table {
               (text_by (slice_index (row_widths self.old.structure) f) (decimals_at self.old.structure f) from.now);
         } }
     {
-        let field = good_field(&self.structure, f);
+        let decimals = decimals_of(&self.structure, f);
         let text = self.field_mut(r, f);
-        put(&field, from, text);
+        put_by(decimals, from, text);
     }
 
     /// Whether row `r`, counted from 0, is marked.

@@ -6,13 +6,14 @@ ghost use Rattle.fixed_num.specs.Number.{finite};
 ghost use Rattle.fixed_num.specs.Reading.{are_digits, with_digits};
 ghost use Rattle.xvalue.specs.Kinds.{kind_of};
 ghost use Rattle.calendar.specs.Calendar.{day_or_blank};
-ghost use Rattle.dbf_file.specs.Values.{kind_for, is_all_blanks, number_in, day_in, is_yes, value_of, fitted_text};
-ghost use Rattle.dbf_file.specs.Values.{stored_day as day_text_of, logical_text as logical_text_of, text_for};
+ghost use Rattle.dbf_file.specs.Values.{kind_for, is_all_blanks, number_in, day_in, is_yes, value_by, value_of};
+ghost use Rattle.dbf_file.specs.Values.{fitted_text};
+ghost use Rattle.dbf_file.specs.Values.{stored_day as day_text_of, logical_text as logical_text_of, text_by, text_for};
 
 use crate::field::{Field, Letter, MAX_DECIMALS};
 use calendar::{Day, DayParts, with_digits};
 use fixed_num::{Num, Parts, are_digits, without_blanks};
-use xvalue::{Kind, Text, Value, text_from};
+use xvalue::{Kind, Lent, Text, Value, text_from};
 
 /// The most bytes of a text value.
 const TEXT_BYTES: usize = 254;
@@ -143,17 +144,24 @@ pub(crate) fn begins_with_yes(text: &[u8]) -> bool
     }
 }
 
+/// The value of a text in a field of this letter and these decimals.
+pub(crate) fn value_by(letter: Letter, decimals: u8, text: &[u8]) -> Value
+    ensures { result ≡ value_by letter decimals text.now }
+{
+    match letter {
+        Letter::C => Value::Text(text_in(text)),
+        Letter::N => Value::Number(number_in(decimals, text)),
+        Letter::D => Value::Date(day_in(text)),
+        Letter::L => Value::Logical(begins_with_yes(text)),
+    }
+}
+
 /// The value of a text in a field. Each text has one, whatever its length.
 #[tactic(auto, unfolding(crate::specs::Values::value_of))]
 pub fn value(field: &Field, text: &[u8]) -> Value
     ensures { result ≡ value_of field.now text.now }
 {
-    match field.letter {
-        Letter::C => Value::Text(text_in(text)),
-        Letter::N => Value::Number(number_in(field.decimals, text)),
-        Letter::D => Value::Date(day_in(text)),
-        Letter::L => Value::Logical(begins_with_yes(text)),
-    }
+    value_by(field.letter, field.decimals, text)
 }
 
 /// Writes a text, cut or padded with blanks.
@@ -205,17 +213,25 @@ fn logical_text(truth: bool) -> [u8; 1]
 /// Writes the text of a value of the field's kind into a text of the field's width. A number is rounded to the field's
 /// decimals; where it doesn't fit, the text is all asterisks. Other values are cut or padded with blanks.
 #[tactic(auto, unfolding(crate::specs::Values::text_for))]
-pub fn put(field: &Field, value: &Value, text: &mut [u8])
+pub fn put(field: &Field, value: &Lent<'_>, text: &mut [u8])
     requires width { length text.old ≡ field.now.width }
     requires kind { kind_of value.now ≡ kind_for field.now.letter }
     ensures { text.new ≡ text_for field.now value.now }
 {
-    match value {
-        Value::Number(number) => {
-            number.print(text.len(), field.decimals.min(MAX_DECIMALS), text)
-        },
-        Value::Text(written) => put_text(written.as_slice(), text),
-        Value::Date(day) => put_text(&day_text(*day), text),
-        Value::Logical(truth) => put_text(&logical_text(*truth), text),
+    put_by(field.decimals, value, text);
+}
+
+/// The same in a field of the text's width and these decimals.
+pub(crate) fn put_by(decimals: u8, value: &Lent<'_>, text: &mut [u8])
+    ensures { text.new ≡ text_by (length text.old) decimals value.now }
+{
+    match value.kind() {
+        Kind::Number => {
+            let number = value.number();
+            number.print(text.len(), decimals.min(MAX_DECIMALS), text)
+        }
+        Kind::Text => put_text(value.text(), text),
+        Kind::Date => put_text(&day_text(value.day()), text),
+        Kind::Logical => put_text(&logical_text(value.truth()), text),
     }
 }

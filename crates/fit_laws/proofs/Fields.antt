@@ -25,7 +25,7 @@ use Rattle.run_steps.specs.World.{World, desk_of}
 use Rattle.run_steps.specs.Effects.{answer, on_table, record_values}
 use Rattle.run_steps.specs.Faults.{IsClear}
 use Rattle.run_steps.specs.Shapes.{StoreFits}
-use Rattle.run_laws.proofs.AlikeFields.{value_kind}
+use Rattle.dbf_file.proofs.ValueLemmas.{value_kind}
 use Rattle.run_laws.proofs.Known.{OpenThere}
 use Rattle.run_laws.proofs.OnRecords.{field_known}
 use Rattle.run_laws.proofs.Tests.{first_no}

@@ -16,7 +16,7 @@ use key_lists::KeyList;
 use row_keys::Kept;
 use row_keys::laws::index_lists;
 use std::alloc::{AllocError, Global};
-use xvalue::Value;
+use xvalue::Lent;
 
 /// Adds a blank row, and its pair to each open index; the others go stale. Where memory is missing, rows and lists are
 /// as they were.
@@ -53,7 +53,7 @@ pub(crate) fn replace<K: KeyList>(
     list: &[u8],
     r: usize,
     f: usize,
-    from: &Value,
+    from: &Lent<'_>,
 ) -> Result<(), AllocError>
     requires row { r < length table.old.rows }
     requires field { f < length table.old.structure.fields }

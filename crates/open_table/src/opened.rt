@@ -31,7 +31,7 @@ use row_moves::{Landed, RowMove, Spent};
 use shape::KeyParts;
 use std::alloc::{AllocError, Global};
 use std::marker::Model;
-use xvalue::Value;
+use xvalue::{Lent, Value};
 
 /// A table in use: its open indexes, an order, a pointer, and the answers of BOF() and FOUND().
 #[derive(Drop)]
@@ -291,7 +291,7 @@ impl<K: KeyList> OpenTable<K> {
 
     /// REPLACE: writes a value of the field's kind into field `f`, counted from 0, of the record that is pointed to; at
     /// the end of file nothing changes. The pointer and the answers stay. Where memory is missing nothing changes.
-    pub fn replace(&mut self, f: usize, from: &Value) -> Result<(), AllocError>
+    pub fn replace(&mut self, f: usize, from: &Lent<'_>) -> Result<(), AllocError>
         requires field { f < length self.old.table.structure.fields }
         requires kind { kind_of from.now ≡ kind_for (letter_at self.old.table.structure f) }
         ensures ok { OnOk result (self.new ≡ replaced_here f from.now self.old) }

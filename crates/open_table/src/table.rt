@@ -33,7 +33,7 @@ use row_moves::{Landed, RowMove, Spent};
 use shape::KeyParts;
 use std::alloc::{AllocError, Global};
 use std::marker::Model;
-use xvalue::Value;
+use xvalue::Lent;
 
 /// A table with its declared indexes. Each index that isn't stale lists the rows.
 #[derive(Drop)]
@@ -142,7 +142,7 @@ impl<K: KeyList> IndexedTable<K> {
         list: &[u8],
         r: usize,
         f: usize,
-        from: &Value,
+        from: &Lent<'_>,
     ) -> Result<(), AllocError>
         requires row { r < length self.old.rows }
         requires field { f < length self.old.structure.fields }

@@ -18,6 +18,8 @@ mod codes;
 #[cfg(test)]
 mod command_files;
 #[cfg(test)]
+mod divisors;
+#[cfg(test)]
 mod failing;
 #[cfg(test)]
 mod hand_codes;

@@ -1,12 +1,11 @@
 -- The fields of a table in use, and those that are declared for it.
 use Rattle.std.proofs.Common.{◌≡◌, ℕ, zero, suc, ◌<◌, List, [], ◌∷◌, length, Some, refl, sym, ap, subst, ◌∙◌, arith}
 use Rattle.std.specs.Prelude.{map, slice_get, slice_index_or, IfSome}
-use Rattle.xvalue.specs.Kinds.{kind_of}
 use Rattle.dbf_file.specs.declared.field.Field.{Field as TableField}
 use Rattle.dbf_file.specs.declared.field.Letter.{Letter}
-use Rattle.dbf_file.specs.declared.field.Letter.TheVariants.{C, N, D, L}
+use Rattle.dbf_file.specs.declared.field.Letter.TheVariants.{C}
 use Rattle.dbf_file.specs.Tables.{StructureState, letter_at}
-use Rattle.dbf_file.specs.Values.{kind_for, value_by}
+use Rattle.dbf_file.specs.Values.{kind_for}
 use Rattle.shape.specs.declared.tables.TableShape.{TableShape}
 use Rattle.open_table.specs.Open.{OpenState}
 use Rattle.work_area.specs.Areas.{StoreState}
@@ -30,13 +29,6 @@ fields_alike d s a fits o =
     (λ x. IfSome x (λ (t : TableShape). HaveAlikeFields o.table.table.structure.fields t.fields)) shape.1 by_table in
     subst (λ (fs : List TableField). HaveAlikeFields o.table.table.structure.fields fs)
     (sym (ap fields_declared shape.1)) alike
-
--- the kind of a field's value, by its letter
-pub value_kind : (l : Letter) (decimals : ℕ) (text : List ℕ) → kind_of (value_by l decimals text) ≡ kind_for l
-value_kind C decimals text = refl
-value_kind N decimals text = refl
-value_kind D decimals text = refl
-value_kind L decimals text = refl
 
 -- the kind of a field, by its letter
 kind_there : (fs : List TableField) (f : ℕ) → f < length fs

@@ -44,7 +44,8 @@ use Rattle.run_steps.specs.Needs.{BlockNeeds}
 use Rattle.run_steps.specs.World.{EnvState, kind_held}
 use Rattle.run_values.proofs.BlockTops.{put_there}
 use Rattle.run_steps.proofs.Results.{ResultLaw}
-use Rattle.run_laws.proofs.AlikeFields.{alike_kind, value_kind}
+use Rattle.dbf_file.proofs.ValueLemmas.{value_kind}
+use Rattle.run_laws.proofs.AlikeFields.{alike_kind}
 use Rattle.run_laws.proofs.Tests.{Same, on_top, slot_holds}
 
 -- the tests of one instruction of it

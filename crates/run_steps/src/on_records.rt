@@ -134,7 +134,7 @@ fn replace<V: Values, K: KeyList>(
     ensures registers { V.registers values.new ≡ V.registers values.old }
 {
     let kind = kind_here(store, field);
-    let value = values.top(kind);
+    let value = values.top_lent(kind);
     match store.replace(usize::from(field), &value) {
         Ok(()) => {
             values.discard(kind);

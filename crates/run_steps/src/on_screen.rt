@@ -53,10 +53,10 @@ fn input<V: Values, K: KeyList>(values: &mut V, env: &mut Environment<K>, kind: 
         × (env.new ≡ screen_env (OfInput kind) t env.old) }
     ensures registers { V.registers values.new ≡ V.registers values.old }
 {
-    let old = values.top(kind);
-    values.discard(kind);
     let line = env.next_line();
-    values.push(old.answered(line.as_slice()));
+    let answer = values.top_lent(kind).answered(line.as_slice());
+    values.discard(kind);
+    values.push(answer);
 }
 
 /// PRINT: shows the value at the cursor, and takes it. Where memory is refused nothing changes.

@@ -7,4 +7,3 @@ pub mod Calling
 pub mod Standing
 pub mod Tagged
 pub mod TextPile
-pub mod Lent

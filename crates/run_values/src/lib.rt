@@ -7,7 +7,6 @@
 pub mod calling;
 mod cells;
 mod kind_piles;
-mod lent;
 mod operands;
 mod pile;
 mod stacks;
@@ -18,7 +17,6 @@ mod values;
 
 pub use cells::{Cells, TEMPORARIES};
 pub use kind_piles::KindPiles;
-pub use lent::Lent;
 pub use operands::Operand;
 pub use pile::{Pile, STACK_LIMIT};
 pub use stacks::Stacks;

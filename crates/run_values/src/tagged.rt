@@ -6,7 +6,6 @@ ghost use Rattle.run_values.specs.Standing.{IsTagged};
 ghost use Rattle.run_values.specs.Tagged.{TaggedValues};
 ghost use Rattle.xvalue.specs.Kinds.{kind_of, kind_held};
 
-use crate::lent::Lent;
 use crate::operands::{Operand, SLOT_PLACES};
 use crate::pile::Pile;
 use crate::untagged::Untagged;
@@ -15,7 +14,7 @@ use fixed_num::Num;
 use std::alloc::{AllocError, Global};
 use std::marker::Model;
 use xvalue::laws::{arguments_are_few, results_have_their_kind};
-use xvalue::{Fun, Kind, Settings, Text, Value};
+use xvalue::{Fun, Kind, Lent, Settings, Text, Value};
 
 /// Slots and a stack of values with their kinds, and registers.
 #[derive(Drop)]
@@ -102,8 +101,8 @@ impl Values for Tagged {
         self.stack.push(value.kind());
     }
 
-    fn top(&self, kind: Kind) -> Value {
-        self.values.top(kind)
+    fn top_lent(&self, kind: Kind) -> Lent<'_> {
+        self.values.top_lent(kind)
     }
 
     fn push_lent(&mut self, value: &Lent<'_>) {

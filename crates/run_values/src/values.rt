@@ -11,10 +11,9 @@ ghost use Rattle.run_values.specs.Operands.{RegisterState, HoldsConstants, sourc
 ghost use Rattle.run_values.specs.Operands.{number_of_operand, truth_of_operand, source_at, HasPlace};
 ghost use Rattle.run_values.specs.Operands.{values_with, registers_with};
 
-use crate::lent::Lent;
 use crate::operands::Operand;
 use fixed_num::Num;
-use xvalue::{Fun, Kind, Settings, Text, Value};
+use xvalue::{Fun, Kind, Lent, Settings, Text, Value};
 
 /// Slots and a stack. Whether they keep the kinds of what they hold is theirs: they stand for values that have them,
 /// perhaps for many. No call takes memory.
@@ -36,8 +35,8 @@ pub trait Values: Drop {
         ensures stands { (t : TaggedValues) → stands self.old t → stands self.new (pushed value.now t) }
         ensures registers { registers self.new ≡ registers self.old };
 
-    /// The same value as that on top, which is of this kind; it stays.
-    fn top(&self, kind: Kind) -> Value
+    /// The value on top, which is of this kind, lent from there.
+    fn top_lent(&self, kind: Kind) -> Lent<'_>
         requires { (t : TaggedValues) × (stands self.now t × HasOnTop (kind ∷ []) t.stack) }
         ensures { (t : TaggedValues) → stands self.now t → HasOnTop (kind ∷ []) t.stack
             → slice_get t.stack 0 ≡ Some result };

@@ -35,7 +35,7 @@ use shape::Shape;
 use shape::laws::legal_shapes_have_keys;
 use std::alloc::{AllocError, Global};
 use std::marker::Model;
-use xvalue::Value;
+use xvalue::{Lent, Value};
 
 /// The most records that any table may have.
 pub const MOST_RECORDS: u32 = 1_000_000;
@@ -290,7 +290,7 @@ impl<K: KeyList> Store<K> {
 
     /// REPLACE: writes a value of the field's kind into field `f`, counted from 0, of the record that is pointed to; at
     /// the end of file nothing changes. The pointer and the answers stay. Where memory is missing nothing changes.
-    pub fn replace(&mut self, f: usize, from: &Value) -> Result<(), AllocError>
+    pub fn replace(&mut self, f: usize, from: &Lent<'_>) -> Result<(), AllocError>
         requires open { IsSome (here self.old) }
         requires field { IfSome (here self.old) (λ o. f < length o.table.structure.fields) }
         requires kind { IfSome (here self.old) (λ o. kind_of from.now ≡ kind_for (letter_at o.table.structure f)) }

@@ -8,4 +8,5 @@ pub mod Signature
 pub mod Texts
 pub mod Laws
 pub mod Answers
+pub mod Lent
 pub use Rattle.calendar.specs.Calendar

@@ -2,36 +2,39 @@
 // kind.
 #![tactic(auto)]
 
-ghost use Rattle.std.specs.Prelude.{◌≡◌, ◌≤◌};
+ghost use Rattle.std.specs.Prelude.{◌≡◌, ◌≤◌, length};
 ghost use Rattle.xvalue.specs.Answers.{at_length, text_answered, number_answered, date_answered, truth_answered};
 ghost use Rattle.xvalue.specs.Answers.{answered};
 
-use crate::text::{Text, copy_of};
+use crate::kind::Kind;
+use crate::lent::Lent;
+use crate::text::{Text, text_from};
 use crate::texts::{blanks, front, joined};
 use crate::value::Value;
 use calendar::Day;
 use fixed_num::Num;
 
-impl Value {
+impl Lent<'_> {
     /// What the line leaves of the value, by the value's own kind. It takes no memory.
     pub fn answered(&self, line: &[u8]) -> Value
         ensures { result ≡ answered self.now line.now }
     {
-        match self {
-            Value::Number(number) => Value::Number(answered_number(*number, line)),
-            Value::Text(text) => Value::Text(answered_text(text, line)),
-            Value::Date(day) => Value::Date(answered_day(*day, line)),
-            Value::Logical(truth) => Value::Logical(answered_logical(*truth, line)),
+        match self.kind() {
+            Kind::Number => Value::Number(answered_number(self.number(), line)),
+            Kind::Text => Value::Text(answered_text(self.text(), line)),
+            Kind::Date => Value::Date(answered_day(self.day(), line)),
+            Kind::Logical => Value::Logical(answered_logical(self.truth(), line)),
         }
     }
 }
 
 /// The line cut, or padded with blanks, to the old text's length.
-fn answered_text(old: &Text, line: &[u8]) -> Text
-    ensures { result.items ≡ text_answered old.now.items line.now }
+fn answered_text(old: &[u8], line: &[u8]) -> Text
+    requires { length old.now ≤ 254 }
+    ensures { result.items ≡ text_answered old.now line.now }
 {
     if line.is_empty() {
-        return copy_of(old);
+        return text_from(old);
     }
     at_length(line, old.len())
 }

@@ -11,6 +11,7 @@ mod arguments;
 mod fun;
 mod kind;
 pub mod laws;
+mod lent;
 mod settings;
 mod shown;
 mod text;
@@ -23,6 +24,7 @@ pub use fun::{
     Arithmetic, DateFun, FUNS, Fun, NumberFun, NumberOrder, TextFun, TruthFun, signature,
 };
 pub use kind::Kind;
+pub use lent::Lent;
 pub use settings::{Setting, Settings};
 pub use shown::{shown_day, shown_logical, shown_number};
 pub use text::{Text, copy_of, text_from};

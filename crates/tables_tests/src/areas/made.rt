@@ -13,7 +13,7 @@ use shape::{IndexShape, Items, KeyPart, KeyParts, Name, Shape, TableShape};
 use std::alloc::{AllocError, Global};
 use work_area::handed::{are_lists, are_of_shape};
 use work_area::{MOST_RECORDS, Store};
-use xvalue::{Text, Value};
+use xvalue::{Lent, Text, Value};
 
 const NAMES: [&[u8]; 12] = [
     b"AA", b"AB", b"AC", b"AD", b"AE", b"AF", b"AG", b"AH", b"AI", b"AJ", b"AK", b"AL",
@@ -105,7 +105,7 @@ fn put_row(table: &mut Table, text: &[u8]) -> Result<(), AllocError> {
     let value = Value::Text(held);
     if takes_last(table, &value) {
         let last = table.rows() - 1;
-        table.put_at(last, 0, &value);
+        table.put_at(last, 0, &Lent::of(&value));
     }
     Ok(())
 }

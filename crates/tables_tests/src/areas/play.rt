@@ -15,7 +15,7 @@ use row_moves::Spent;
 use std::alloc::Global;
 use std::cell::Cell;
 use work_area::Store;
-use xvalue::{Text, Value};
+use xvalue::{Lent, Text, Value};
 
 /// A call of a store: of a table by its number, of indexes by the figures of theirs, and texts into the first field.
 #[derive(Clone, Copy)]
@@ -316,7 +316,7 @@ fn write<K: KeyList>(store: &mut Store<K>, text: &[u8]) -> Answer {
     if !takes_here(store, &value) {
         return Answer::Misused;
     }
-    match store.replace(0, &value) {
+    match store.replace(0, &Lent::of(&value)) {
         Ok(()) => Answer::Done,
         Err(_) => Answer::NoMemory,
     }

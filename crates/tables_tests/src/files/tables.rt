@@ -12,7 +12,7 @@ use dbf_file::{
 use fixed_num::Num;
 use std::alloc::{AllocError, Global};
 use std::test::Fail;
-use xvalue::{Kind, Settings, Value};
+use xvalue::{Kind, Lent, Settings, Value};
 
 /// 9 May 1988.
 const STAMP: Stamp = Stamp {
@@ -293,7 +293,7 @@ fn marks_stay(alloc: Global) -> Result<bool, AllocError> {
 /// Writes a value into a text, where the value and the text suit the field.
 fn put_where_it_suits(field: &Field, from: &Value, text: &mut [u8]) -> bool {
     if text.len() == usize::from(field.width) && from.kind() == field.letter.kind() {
-        put(field, from, text);
+        put(field, &Lent::of(from), text);
         true
     } else {
         false
@@ -431,7 +431,7 @@ fn put_first(table: &mut Table, from: &Value) -> bool {
     if !has_first(table) || from.kind() != table.structure().fields()[0].letter.kind() {
         return false;
     }
-    table.put_at(0, 0, from);
+    table.put_at(0, 0, &Lent::of(from));
     true
 }
 

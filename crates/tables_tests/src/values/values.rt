@@ -3,7 +3,7 @@
 use crate::values::spelled::value_of;
 use calendar::{Day, DayParts};
 use fixed_num::Num;
-use xvalue::{Kind, Settings, Value};
+use xvalue::{Kind, Lent, Settings, Value};
 
 /// A value a row: its kind, how it is spelled, the line that is typed over it, if there is one, and how the screen
 /// shows what is there then. Behind `-` stand a text and the text of the number that it is read as.
@@ -76,7 +76,8 @@ fn kind_of(letter: &str) -> Kind {
 fn is_shown(old: &Value, wanted: &str) -> bool {
     match wanted.split_once('|') {
         Some((line, left)) => {
-            old.answered(line.as_bytes())
+            Lent::of(old)
+                .answered(line.as_bytes())
                 .shown(Settings::off())
                 .as_slice()
                 == left.as_bytes()

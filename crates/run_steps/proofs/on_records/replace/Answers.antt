@@ -9,8 +9,8 @@ returns-in-Ok-clause-stands g c = λ t s f k.
     let there = takes_here (here c.args.store.now) c.args.field c.kind_here-kind.result t f.0
     c.kind_here-kind.ensures k in (
       c.discard.ensures.stands t s there,
-      (rw c.from.ensures at c.in-Ok.ensures.ok) ∙ sym (with_top t c.top-value.result
+      (rw c.from.ensures at c.in-Ok.ensures.ok) ∙ sym (with_top t c.top_lent-value.result
           c.args.store.now (λ value. change_here (replaced_here c.args.field value) c.args.store.now)
-          (c.top-value.ensures t s there)),
+          (c.top_lent-value.ensures t s there)),
       refl,
     )

@@ -7,10 +7,11 @@ ghost use Rattle.xvalue.specs.declared.kind.Kind.TheVariants.{Number as OfNumber
 ghost use Rattle.xvalue.specs.declared.kind.Kind.TheVariants.{Logical as OfLogical};
 ghost use Rattle.xvalue.specs.Kinds.{kind_of};
 
+use crate::kind::Kind;
+use crate::value::Value;
 use calendar::Day;
 use fixed_num::Num;
 use std::marker::Model;
-use xvalue::{Kind, Value};
 
 /// A value whose text, if it is one, stays where it stands. Its kind says which of its places holds it; the others hold
 /// anything.
@@ -26,7 +27,7 @@ pub struct Lent<'a> {
 impl<'a> Model for Lent<'a> {
     ghost use Rattle.std.specs.Prelude.{◌≤◌, length};
     ghost use Rattle.xvalue.specs.declared.value.Value.{Value as TheValue};
-    ghost use Rattle.run_values.specs.Lent.{lent_as};
+    ghost use Rattle.xvalue.specs.Lent.{lent_as};
 
     ghost Value = { TheValue };
 
