@@ -18,4 +18,4 @@ pub use field::{Field, Letter, MAX_NAME, are_fields};
 pub use stamp::Stamp;
 pub use structure::{Structure, copied_fields};
 pub use table::{Table, read, read_in_place, write};
-pub use values::{put, value};
+pub use values::{lent, put, value};

@@ -2,7 +2,7 @@
 
 ghost use Rattle.std.specs.Prelude.{◌≡◌, ℕ, ◌+◌, ◌*◌, ◌^◌, ◌<◌, ◌≤◌, ◌++◌, ◌∷◌, [], List, length, slice_index};
 ghost use Rattle.std.specs.Prelude.{slice_range, IsTrue, IfOk, OnOk, OnErr, MatchResult, Some, None, ◌⊎◌, vec_capacity};
-ghost use Rattle.std.specs.Prelude.{true};
+ghost use Rattle.std.specs.Prelude.{true, take};
 ghost use Rattle.std.specs.Borrow.{sem};
 ghost use Rattle.dbf_file.specs.declared.stamp.Stamp.{Stamp as TheStamp};
 ghost use Rattle.dbf_file.specs.Fields.{widths_of, size_of as size_of_fields, are_fields};
@@ -21,13 +21,13 @@ use crate::field::{Field, size_of, width_of};
 use crate::reading::{LIVE, Layout, MARKED, layout_of};
 use crate::stamp::Stamp;
 use crate::structure::Structure;
-use crate::values::{begins_with_yes, day_in, number_in, put_by, value_by};
+use crate::values::{begins_with_yes, day_in, first_bytes, lent, number_in, put_with_decimals};
 use crate::writing::{mark_byte, put_descriptors, put_end, put_front, put_rows, put_zeros};
 use calendar::Day;
 use fixed_num::Num;
 use std::alloc::{AllocError, Global};
 use std::marker::Model;
-use xvalue::{Lent, Value};
+use xvalue::Lent;
 
 /// The byte behind the last row of a file.
 const LAST: u8 = 26;
@@ -188,7 +188,7 @@ fn span_of(structure: &Structure, size: usize, rows: usize, r: usize, f: usize) 
 }
 
 /// How many decimals field `f` has.
-fn decimals_of(structure: &Structure, f: usize) -> u8
+fn field_decimals(structure: &Structure, f: usize) -> u8
     requires { f < length structure.now.fields }
     ensures { result ≡ decimals_at structure.now f }
 {
@@ -312,15 +312,26 @@ impl Table {
         self.records.slice_mut(start..end)
     }
 
-    /// The value of field `f` in row `r`, both counted from 0.
-    pub fn value_at(&self, r: usize, f: usize) -> Value
+    /// The value of field `f` in row `r`, both counted from 0, lent from there.
+    #[inline(always)]
+    pub fn lent_at(&self, r: usize, f: usize) -> Lent<'_>
         requires row { r < length self.now.rows }
         requires field { f < length self.now.structure.fields }
-        ensures { result ≡ value_by (letter_at self.now.structure f) (decimals_at self.now.structure f)
-            (text_at self.now.rows r f) }
+        ensures { result ≡ value_by (letter_at self.entry.now.structure f) (decimals_at self.entry.now.structure f)
+            (text_at self.entry.now.rows r f) }
     {
         let field = &self.structure.fields()[f];
-        value_by(field.letter, field.decimals, self.field(r, f))
+        lent(field.letter, field.decimals, self.field(r, f))
+    }
+
+    /// The bytes of field `f` in row `r`, both counted from 0, as many as a text value may have.
+    pub fn text_at(&self, r: usize, f: usize) -> &[u8]
+        requires row { r < length self.now.rows }
+        requires field { f < length self.now.structure.fields }
+        ensures same { result.now ≡ take 254 (text_at self.now.rows r f) }
+        ensures short { length result.now ≤ 254 }
+    {
+        first_bytes(self.field(r, f))
     }
 
     /// The number that the text of field `f` in row `r` stands for, both counted from 0.
@@ -360,9 +371,9 @@ impl Table {
               (text_by (slice_index (row_widths self.old.structure) f) (decimals_at self.old.structure f) from.now);
         } }
     {
-        let decimals = decimals_of(&self.structure, f);
+        let decimals = field_decimals(&self.structure, f);
         let text = self.field_mut(r, f);
-        put_by(decimals, from, text);
+        put_with_decimals(decimals, from, text);
     }
 
     /// Whether row `r`, counted from 0, is marked.

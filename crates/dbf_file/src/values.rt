@@ -127,11 +127,13 @@ fn is_yes(byte: u8) -> bool
     byte == b'T' || byte == b't' || byte == b'Y' || byte == b'y'
 }
 
-/// The text of the first bytes, as many as a text value may have.
-fn text_in(text: &[u8]) -> Text
-    ensures { result.items ≡ take 254 text.now }
+/// The first bytes, as many as a text value may have.
+#[inline(always)]
+pub(crate) fn first_bytes(text: &[u8]) -> &[u8]
+    ensures same { result.now ≡ take 254 text.now }
+    ensures short { length result.now ≤ 254 }
 {
-    text_from(&text[..text.len().min(TEXT_BYTES)])
+    &text[..text.len().min(TEXT_BYTES)]
 }
 
 /// Whether the first byte stands for true.
@@ -144,24 +146,30 @@ pub(crate) fn begins_with_yes(text: &[u8]) -> bool
     }
 }
 
-/// The value of a text in a field of this letter and these decimals.
-pub(crate) fn value_by(letter: Letter, decimals: u8, text: &[u8]) -> Value
-    ensures { result ≡ value_by letter decimals text.now }
-{
-    match letter {
-        Letter::C => Value::Text(text_in(text)),
-        Letter::N => Value::Number(number_in(decimals, text)),
-        Letter::D => Value::Date(day_in(text)),
-        Letter::L => Value::Logical(begins_with_yes(text)),
-    }
-}
-
 /// The value of a text in a field. Each text has one, whatever its length.
 #[tactic(auto, unfolding(crate::specs::Values::value_of))]
 pub fn value(field: &Field, text: &[u8]) -> Value
     ensures { result ≡ value_of field.now text.now }
 {
-    value_by(field.letter, field.decimals, text)
+    match field.letter {
+        Letter::C => Value::Text(text_from(first_bytes(text))),
+        Letter::N => Value::Number(number_in(field.decimals, text)),
+        Letter::D => Value::Date(day_in(text)),
+        Letter::L => Value::Logical(begins_with_yes(text)),
+    }
+}
+
+/// The value of a text in a field of this letter and these decimals, lent from there.
+#[inline(always)]
+pub fn lent(letter: Letter, decimals: u8, text: &[u8]) -> Lent<'_>
+    ensures { result ≡ value_by letter decimals text.entry.now }
+{
+    match letter {
+        Letter::C => Lent::of_text(first_bytes(text)),
+        Letter::N => Lent::of_number(number_in(decimals, text)),
+        Letter::D => Lent::of_day(day_in(text)),
+        Letter::L => Lent::of_truth(begins_with_yes(text)),
+    }
 }
 
 /// Writes a text, cut or padded with blanks.
@@ -218,11 +226,11 @@ pub fn put(field: &Field, value: &Lent<'_>, text: &mut [u8])
     requires kind { kind_of value.now ≡ kind_for field.now.letter }
     ensures { text.new ≡ text_for field.now value.now }
 {
-    put_by(field.decimals, value, text);
+    put_with_decimals(field.decimals, value, text);
 }
 
 /// The same in a field of the text's width and these decimals.
-pub(crate) fn put_by(decimals: u8, value: &Lent<'_>, text: &mut [u8])
+pub(crate) fn put_with_decimals(decimals: u8, value: &Lent<'_>, text: &mut [u8])
     ensures { text.new ≡ text_by (length text.old) decimals value.now }
 {
     match value.kind() {

@@ -21,17 +21,19 @@ ghost use Rattle.open_table.specs.Tried.{MayAskRows, ShowsRows};
 ghost use Rattle.open_table.specs.Open.{IsMoved, IsEnded, opened, closed, first_order, in_table, order_index};
 ghost use Rattle.open_table.specs.Open.{gone_to, with_blank, place_in, replaced_here, remarked_here, reordered};
 ghost use Rattle.open_table.specs.Open.{deleted_of, field_of, landed as landed_at, within, within as within_of};
-ghost use Rattle.open_table.specs.Open.{current_row};
 
 use crate::{IndexedTable, Refused, Row};
 use arrayvec::ArrayVec;
-use dbf_file::{Table, value};
+use dbf_file::{Table, lent};
 use key_lists::KeyList;
 use row_moves::{Landed, RowMove, Spent};
 use shape::KeyParts;
 use std::alloc::{AllocError, Global};
 use std::marker::Model;
-use xvalue::{Lent, Value};
+use xvalue::Lent;
+
+/// The text of a longest field of blanks.
+const BLANKS: &[u8] = &[b' '; 255];
 
 /// A table in use: its open indexes, an order, a pointer, and the answers of BOF() and FOUND().
 #[derive(Drop)]
@@ -370,29 +372,15 @@ impl<K: KeyList> OpenTable<K> {
         }
     }
 
-    /// The value of field `f`, counted from 0, of the record that is pointed to; at the end of file that of a field of
-    /// blanks.
-    pub fn field(&self, f: usize) -> Value
+    /// The value of field `f`, counted from 0, of the record that is pointed to, lent from there; at the end of file
+    /// that of a field of blanks.
+    pub fn field(&self, f: usize) -> Lent<'_>
         requires { f < length self.now.table.structure.fields }
-        ensures { result ≡ field_of f self.now }
+        ensures { result ≡ field_of f self.entry.now }
     {
         match self.place() {
-            Some(r) => self.table.table().value_at(r, f),
-            None => blank_value(self.table.table(), f),
-        }
-    }
-
-    /// The record that is pointed to, as a row with that record's number and the count of the table's records; none at
-    /// the end of file.
-    pub fn row(&self) -> Option<Row<'_>>
-        ensures row { MatchOption result (place_in (length self.now.table.rows) self.now.pointer ≡ None)
-            (λ row. (row.structure ≡ self.now.table.structure) × (row.row ≡ current_row self.now)) }
-        ensures number { IfSome result (λ row. Some row.number ≡ self.now.pointer) }
-        ensures count { IfSome result (λ row. row.count ≡ length self.now.table.rows) }
-    {
-        match self.place() {
-            Some(r) => Some(Row::new(self.table.table(), r, self.recno(), self.table.count())),
-            None => None,
+            Some(r) => self.table.table().lent_at(r, f),
+            None => blank(self.table.table(), f),
         }
     }
 
@@ -548,14 +536,17 @@ impl<K: KeyList> OpenTable<K> {
 }
 
 /// The value of field `f`, counted from 0, of a row of blanks.
-#[tactic(auto, unfolding(dbf_file::specs::Values::value_of))]
-fn blank_value(table: &Table, f: usize) -> Value
+fn blank(table: &Table, f: usize) -> Lent<'_>
     requires { f < length table.now.structure.fields }
-    ensures { result ≡ value_by (letter_at table.now.structure f) (decimals_at table.now.structure f)
-        (slice_index_or (blank_row (row_widths table.now.structure)).texts f []) }
+    ensures { result ≡ value_by (letter_at table.entry.now.structure f) (decimals_at table.entry.now.structure f)
+        (slice_index_or (blank_row (row_widths table.entry.now.structure)).texts f []) }
 {
     let field = &table.structure().fields()[f];
-    value(field, &[b' '; 255][..usize::from(field.width)])
+    lent(
+        field.letter,
+        field.decimals,
+        &BLANKS[..usize::from(field.width)],
+    )
 }
 
 /// The order of indexes that are opened: that of the first, or record order where there is none.

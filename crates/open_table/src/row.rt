@@ -6,10 +6,10 @@ ghost use Rattle.dbf_file.specs.Tables.{letter_at, decimals_at};
 ghost use Rattle.dbf_file.specs.Values.{value_by, number_in, day_in, is_yes};
 
 use calendar::Day;
-use dbf_file::{Letter, Table};
+use dbf_file::Table;
 use fixed_num::Num;
 use std::marker::Model;
-use xvalue::Value;
+use xvalue::Lent;
 
 /// A row that a filter is asked for: a row of a table, with the number and the count of records that it has in the
 /// world in which it is tried.
@@ -85,21 +85,14 @@ impl<'a> Row<'a> {
         self.table.structure().fields().len()
     }
 
-    /// The value of field `f`, counted from 0.
-    pub fn value(&self, f: usize) -> Value
+    /// The value of field `f`, counted from 0, lent from there.
+    #[inline(always)]
+    pub fn lent(&self, f: usize) -> Lent<'_>
         requires { f < length self.now.structure.fields }
-        ensures { result ≡ value_by (letter_at self.now.structure f) (decimals_at self.now.structure f)
-            (slice_index_or self.now.row.texts f []) }
+        ensures { result ≡ value_by (letter_at self.entry.now.structure f) (decimals_at self.entry.now.structure f)
+            (slice_index_or self.entry.now.row.texts f []) }
     {
-        self.table.value_at(self.place, f)
-    }
-
-    /// The letter of field `f`, counted from 0, which tells the kind of its values.
-    pub fn letter(&self, f: usize) -> Letter
-        requires { f < length self.now.structure.fields }
-        ensures { result ≡ letter_at self.now.structure f }
-    {
-        self.table.structure().fields()[f].letter
+        self.table.lent_at(self.place, f)
     }
 
     /// The number that the text of field `f`, counted from 0, stands for.
@@ -116,7 +109,7 @@ impl<'a> Row<'a> {
         ensures same { result.now ≡ take 254 (slice_index_or self.now.row.texts f []) }
         ensures short { length result.now ≤ 254 }
     {
-        first_bytes(self.table.field(self.place, f))
+        self.table.text_at(self.place, f)
     }
 
     /// The day that the text of field `f`, counted from 0, stands for.
@@ -134,12 +127,4 @@ impl<'a> Row<'a> {
     {
         self.table.truth_at(self.place, f)
     }
-}
-
-/// The first bytes, as many as a text value may have.
-fn first_bytes(text: &[u8]) -> &[u8]
-    ensures same { result.now ≡ take 254 text.now }
-    ensures short { length result.now ≤ 254 }
-{
-    &text[..text.len().min(254)]
 }

@@ -1,6 +1,6 @@
 pub mod LeadingSteps
 mod Rows
-mod RowWorks
+pub mod RowWorks
 pub mod Results
 mod BlockSteps
 mod Drafts

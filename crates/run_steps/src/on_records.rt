@@ -25,7 +25,6 @@ use crate::ending::Stop;
 use crate::environment::Environment;
 use crate::filtering::View;
 use crate::on_areas::{list_of, refused};
-use crate::row_values::lent_field;
 use crate::row_works::FilterWorks;
 use code_items::Code;
 use code_items::instr::{Question, RecordInstr};
@@ -70,16 +69,7 @@ pub(crate) fn push_field<V: Values, K: KeyList>(
         → IfSome (area_table store.now area) (λ o. V.stands values.new (pushed (field_of field o) t)) }
     ensures registers { V.registers values.new ≡ V.registers values.old }
 {
-    let f = usize::from(field);
-    match store.row(area) {
-        Some(row) => {
-            if f < row.fields() {
-                return values.push_lent(&lent_field(&row, f));
-            }
-        }
-        None => {}
-    }
-    values.push(store.field(area, f))
+    values.push_lent(&store.field(area, usize::from(field)))
 }
 
 /// The kind of the values of a field of the selected area's table.

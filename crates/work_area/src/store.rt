@@ -9,7 +9,6 @@ ghost use Rattle.dbf_file.specs.Tables.{letter_at};
 ghost use Rattle.dbf_file.specs.Values.{kind_for};
 ghost use Rattle.row_keys.specs.Lists.{index_list};
 ghost use Rattle.open_table.specs.Open.{closed, with_blank, replaced_here, remarked_here, gone, reordered, field_of};
-ghost use Rattle.open_table.specs.Open.{current_row, place_in};
 ghost use Rattle.open_table.specs.Open.{IsEnded, deleted_of, opened};
 ghost use Rattle.open_table.specs.Marks.{mark_at, is_fresh, parts_in, form_in};
 ghost use Rattle.open_table.specs.Tried.{MayAskRows, ShowsRows};
@@ -35,7 +34,7 @@ use shape::Shape;
 use shape::laws::legal_shapes_have_keys;
 use std::alloc::{AllocError, Global};
 use std::marker::Model;
-use xvalue::{Lent, Value};
+use xvalue::Lent;
 
 /// The most records that any table may have.
 pub const MOST_RECORDS: u32 = 1_000_000;
@@ -531,32 +530,16 @@ impl<K: KeyList> Store<K> {
         has_all(self.tables[usize::from(table)].table(), indexes)
     }
 
-    /// The value of field `f`, counted from 0, of the record that an open area, 1 to 10, points to; at the end of file
-    /// that of a field of blanks.
-    pub fn field(&self, area: u8, f: usize) -> Value
+    /// The value of field `f`, counted from 0, of the record that an open area, 1 to 10, points to, lent from there; at
+    /// the end of file that of a field of blanks.
+    pub fn field(&self, area: u8, f: usize) -> Lent<'_>
         requires first { 1 ≤ area }
         requires last { area ≤ 10 }
         requires open { IsSome (area_table self.now area) }
         requires field { IfSome (area_table self.now area) (λ o. f < length o.table.structure.fields) }
-        ensures { IfSome (area_table self.now area) (λ o. result ≡ field_of f o) }
+        ensures { IfSome (area_table self.entry.now area) (λ o. result ≡ field_of f o) }
     {
         self.tables[self.place(area)].field(f)
-    }
-
-    /// The current record of an area, 1 to 10, which is open, as a row with that record's number and the count of the
-    /// table's records; none at its end of file.
-    pub fn row(&self, area: u8) -> Option<Row<'_>>
-        requires first { 1 ≤ area }
-        requires last { area ≤ 10 }
-        requires open { IsSome (area_table self.now area) }
-        ensures row { IfSome (area_table self.now area) (λ o. MatchOption result
-            (place_in (length o.table.rows) o.pointer ≡ None)
-            (λ row. (row.structure ≡ o.table.structure) × (row.row ≡ current_row o))) }
-        ensures number { IfSome (area_table self.now area) (λ o. IfSome result (λ row. Some row.number ≡ o.pointer)) }
-        ensures count { IfSome (area_table self.now area)
-            (λ o. IfSome result (λ row. row.count ≡ length o.table.rows)) }
-    {
-        self.tables[self.place(area)].row()
     }
 
     /// EOF() of the selected area.

@@ -5,20 +5,14 @@ use Rattle.std.proofs.lemmas.Bool.{and_parts, eqb-true}
 use Rattle.std.proofs.lemmas.Option.{same_Some}
 use Rattle.xvalue.specs.declared.fun.Fun.{Fun}
 use Rattle.xvalue.specs.declared.fun.Fun.TheVariants.{OfTwo, Compares, ToNumber, ToText, ToDate, ToTruth}
-use Rattle.xvalue.specs.declared.fun.Arithmetic.{Arithmetic}
 use Rattle.xvalue.specs.declared.fun.Arithmetic.TheVariants.{Add, Sub, Mul, Div, Mod, Round, Max, Min}
-use Rattle.xvalue.specs.declared.fun.NumberOrder.{NumberOrder}
 use Rattle.xvalue.specs.declared.fun.NumberOrder.TheVariants.{NumberEq, NumberLess, NumberGreater}
-use Rattle.xvalue.specs.declared.fun.NumberFun.{NumberFun}
 use Rattle.xvalue.specs.declared.fun.NumberFun.TheVariants.{Neg, DateDiff, IifNumber, Len, At, Asc, Val, Abs, Int}
 use Rattle.xvalue.specs.declared.fun.NumberFun.TheVariants.{Day, Month, Year, Dow}
-use Rattle.xvalue.specs.declared.fun.TextFun.{TextFun}
 use Rattle.xvalue.specs.declared.fun.TextFun.TheVariants.{Join, JoinMoved, IifText, Substr, Left, Right, Trim, Ltrim}
 use Rattle.xvalue.specs.declared.fun.TextFun.TheVariants.{Upper, Lower, Space, Replicate, Stuff, Chr, Str, Dtoc, Cdow}
 use Rattle.xvalue.specs.declared.fun.TextFun.TheVariants.{Cmonth}
-use Rattle.xvalue.specs.declared.fun.DateFun.{DateFun}
 use Rattle.xvalue.specs.declared.fun.DateFun.TheVariants.{DateAdd, DateSub, IifDate, Ctod}
-use Rattle.xvalue.specs.declared.fun.TruthFun.{TruthFun}
 use Rattle.xvalue.specs.declared.fun.TruthFun.TheVariants.{TextEq, TextLess, TextGreater, DateEq, DateLess}
 use Rattle.xvalue.specs.declared.fun.TruthFun.TheVariants.{DateGreater, Not, And, Or, In, IifLogical, IsAlpha}
 use Rattle.xvalue.specs.declared.fun.TruthFun.TheVariants.{IsUpper, IsLower}

@@ -7,7 +7,7 @@ use Rattle.std.proofs.Math.Seq.{take-append-add}
 use Rattle.std.specs.List.{refill}
 use Rattle.std.proofs.lemmas.Bool.{cases_lt}
 use Rattle.std.proofs.lemmas.List.{drop_more, take-append-le, take_all, take-replicate, take-map, drop_all}
-use Rattle.std.proofs.lemmas.List.{length-replicate}
+use Rattle.std.proofs.lemmas.List.{length-replicate, length-map}
 use Rattle.fixed_num.specs.Number.{Number}
 use Rattle.fixed_num.specs.Text.{printed_in}
 use Rattle.xvalue.specs.Shown.{in_ten_places}
@@ -92,8 +92,9 @@ blanks_of most n blank =
           ∙ sym (take-replicate most n blank many)
     ]
 
-pub blanks_fitting : (n : ℕ) → take {A = ℕ} n (replicate 254 32) ≡ fitting (replicate n 32)
-blanks_fitting n = blanks_of 254 n 32
+pub blanks_fitting : (n : ℕ) → fitting (take n (replicate 254 32)) ≡ fitting (replicate n 32)
+blanks_fitting n =
+    ap fitting (blanks_of 254 n 32) ∙ take_all 254 (fitting (replicate n 32)) (fitting_short (replicate n 32))
 
 -- a place at which a text doesn't stand is passed
 further-add : (n m : ℕ) (o : Option ℕ) → further n (further m o) ≡ further (n + m) o
@@ -125,7 +126,7 @@ first_place-there part cs n o e f =
     ap Some (let h : n ≡ n + 0 = omega arith in h) ∙ sym (ap (further n) (first_place-then part cs e)) ∙ f
 
 -- letters of a text that is cut
-pub fitting-map : (f : ℕ → ℕ) (cs : List ℕ) → map f (fitting cs) ≡ fitting (map f cs)
+fitting-map : (f : ℕ → ℕ) (cs : List ℕ) → map f (fitting cs) ≡ fitting (map f cs)
 fitting-map f cs = sym (take-map f 254 cs)
 
 -- a field of blanks is as long as wanted
@@ -139,6 +140,13 @@ pub refilled : (n : ℕ) (old new : List ℕ) → length old ≡ n → length ne
 refilled n old new e f =
     ap (λ rest. take n (new ++ rest)) (drop_all (length new) old (omega (arith, e, f))) ∙ ap (take n) (append-nil new)
     ∙ take_all n new (omega (arith, f))
+
+-- letters that are written over
+pub mapped_whole : (f : ℕ → ℕ) (cs old slice new : List ℕ) → old ≡ fitting cs → slice ≡ old → new ≡ map f slice
+    → refill (length old) old new ≡ fitting (map f cs)
+mapped_whole f cs old slice new is_old same is_new =
+    let e : new ≡ map f old = is_new ∙ ap (map f) same in
+    refilled (length old) old new refl (ap length e ∙ length-map old f) ∙ e ∙ ap (map f) is_old ∙ fitting-map f cs
 
 -- a number in a field of blanks
 pub field_filled : ((width decimals : ℕ) (x : Number) → length (printed_in width decimals x) ≡ width)

@@ -9,7 +9,7 @@ ghost use Rattle.xvalue.specs.Answers.{answered};
 use crate::kind::Kind;
 use crate::lent::Lent;
 use crate::text::{Text, text_from};
-use crate::texts::{blanks, front, joined};
+use crate::texts::{front, write_blanks, write_joined};
 use crate::value::Value;
 use calendar::Day;
 use fixed_num::Num;
@@ -81,6 +81,9 @@ fn at_length(bytes: &[u8], size: usize) -> Text
     requires { size ≤ 254 }
     ensures { result.items ≡ at_length size bytes.now }
 {
-    let padding = blanks(size.saturating_sub(bytes.len()));
-    joined(front(bytes, size), padding.as_slice())
+    let mut padding = Text::new();
+    write_blanks(size.saturating_sub(bytes.len()), &mut padding);
+    let mut text = Text::new();
+    write_joined(front(bytes, size), padding.as_slice(), &mut text);
+    text
 }

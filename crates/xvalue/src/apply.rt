@@ -12,7 +12,7 @@ ghost use Rattle.xvalue.specs.declared.fun.Fun.TheVariants.{OfTwo, Compares, ToN
 use crate::arguments::Arguments;
 use crate::fun::{Arithmetic, DateFun, Fun, NumberFun, NumberOrder, TextFun, TruthFun};
 use crate::settings::Settings;
-use crate::shown::shown_day;
+use crate::shown::write_day;
 use crate::text::Text;
 use crate::texts;
 use crate::value::Value;
@@ -35,7 +35,7 @@ pub fn apply(fun: Fun, settings: Settings, arguments: &Arguments<'_>) -> Value
             &arguments.number(1),
         )),
         Fun::ToNumber(fun) => Value::Number(number_given(fun, arguments)),
-        Fun::ToText(fun) => Value::Text(text_given(fun, settings, arguments)),
+        Fun::ToText(fun) => Value::Text(text_made(fun, settings, arguments)),
         Fun::ToDate(fun) => Value::Date(date_given(fun, arguments)),
         Fun::ToTruth(fun) => Value::Logical(truth_given(fun, settings, arguments)),
     }
@@ -109,40 +109,55 @@ pub fn number_given(fun: NumberFun, arguments: &Arguments<'_>) -> Num
     }
 }
 
-/// The result of a function that gives a text, under the settings. It takes no memory.
-#[tactic(auto, unfolding(crate::specs::Functions::applied))]
-pub fn text_given(fun: TextFun, settings: Settings, arguments: &Arguments<'_>) -> Text
+/// The result of a function that gives a text, under the settings.
+fn text_made(fun: TextFun, settings: Settings, arguments: &Arguments<'_>) -> Text
     ensures { Value.Text result ≡ applied (ToText fun) settings (given arguments.now) }
 {
-    let text = arguments.text(0);
+    let mut text = Text::new();
+    write_text(fun, settings, arguments, &mut text);
+    text
+}
+
+/// Writes the result of a function that gives a text, under the settings, over another text. So it is moved nowhere. It
+/// takes no memory.
+#[tactic(auto, unfolding(crate::specs::Functions::applied))]
+pub fn write_text(fun: TextFun, settings: Settings, arguments: &Arguments<'_>, text: &mut Text)
+    ensures { Value.Text text.new ≡ applied (ToText fun) settings (given arguments.now) }
+{
+    let first = arguments.text(0);
     match fun {
-        TextFun::Join => texts::joined(text, arguments.text(1)),
-        TextFun::JoinMoved => texts::joined_moved(text, arguments.text(1)),
-        TextFun::IifText => texts::fitting(arguments.text(chosen(arguments, 0))),
-        TextFun::Substr => texts::fitting(texts::part_from(
+        TextFun::Join => texts::write_joined(first, arguments.text(1), text),
+        TextFun::JoinMoved => texts::write_joined_moved(first, arguments.text(1), text),
+        TextFun::IifText => texts::write(arguments.text(chosen(arguments, 0)), text),
+        TextFun::Substr => texts::write(
+            texts::part_from(first, arguments.count(0), arguments.count(1)),
             text,
-            arguments.count(0),
-            arguments.count(1),
-        )),
-        TextFun::Left => texts::fitting(texts::front(text, arguments.count(0))),
-        TextFun::Right => texts::fitting(texts::last_part(text, arguments.count(0))),
-        TextFun::Trim => texts::fitting(without_last_blanks(text)),
-        TextFun::Ltrim => texts::fitting(without_blanks(text)),
-        TextFun::Upper => texts::upper(text),
-        TextFun::Lower => texts::lower(text),
-        TextFun::Space => texts::blanks(arguments.count(0)),
-        TextFun::Replicate => texts::repeated(text, arguments.count(0)),
-        TextFun::Stuff => texts::stuffed(
-            text,
+        ),
+        TextFun::Left => texts::write(texts::front(first, arguments.count(0)), text),
+        TextFun::Right => texts::write(texts::last_part(first, arguments.count(0)), text),
+        TextFun::Trim => texts::write(without_last_blanks(first), text),
+        TextFun::Ltrim => texts::write(without_blanks(first), text),
+        TextFun::Upper => texts::write_upper(first, text),
+        TextFun::Lower => texts::write_lower(first, text),
+        TextFun::Space => texts::write_blanks(arguments.count(0), text),
+        TextFun::Replicate => texts::write_repeated(first, arguments.count(0), text),
+        TextFun::Stuff => texts::write_stuffed(
+            first,
             arguments.count(0),
             arguments.count(1),
             arguments.text(1),
+            text,
         ),
-        TextFun::Chr => texts::byte_text(arguments.number(0)),
-        TextFun::Str => texts::printed(arguments.number(0), arguments.count(1), arguments.count(2)),
-        TextFun::Dtoc => texts::fitting(shown_day(arguments.date(0), settings).as_slice()),
-        TextFun::Cdow => texts::fitting(arguments.date(0).weekday_name()),
-        TextFun::Cmonth => texts::fitting(arguments.date(0).month_name()),
+        TextFun::Chr => texts::write_byte(arguments.number(0), text),
+        TextFun::Str => texts::write_printed(
+            arguments.number(0),
+            arguments.count(1),
+            arguments.count(2),
+            text,
+        ),
+        TextFun::Dtoc => write_day(arguments.date(0), settings, text),
+        TextFun::Cdow => texts::write(arguments.date(0).weekday_name(), text),
+        TextFun::Cmonth => texts::write(arguments.date(0).month_name(), text),
     }
 }
 

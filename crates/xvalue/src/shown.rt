@@ -8,7 +8,7 @@ ghost use Rattle.xvalue.specs.Shown.{shown_number, shown_day, shown_logical};
 
 use crate::settings::Settings;
 use crate::text::{Text, text_from};
-use crate::texts::{blanks, joined};
+use crate::texts::{append, write, write_blanks};
 use calendar::Day;
 use fixed_num::Num;
 
@@ -29,10 +29,10 @@ pub fn shown_number(number: Num) -> Text
     ensures { result.items ≡ shown_number number }
 {
     let digits = number.text();
-    joined(
-        blanks(10usize.saturating_sub(digits.len())).as_slice(),
-        digits.as_slice(),
-    )
+    let mut text = Text::new();
+    write_blanks(10usize.saturating_sub(digits.len()), &mut text);
+    append(&mut text, digits.as_slice());
+    text
 }
 
 /// A date's text as the screen shows it under the settings: `MM/DD/YY`, and with CENTURY on `MM/DD/YYYY`; the blank
@@ -40,39 +40,54 @@ pub fn shown_number(number: Num) -> Text
 pub fn shown_day(day: Day, settings: Settings) -> Text
     ensures { result.items ≡ shown_day settings day }
 {
+    let mut text = Text::new();
+    write_day(day, settings, &mut text);
+    text
+}
+
+/// Writes that text of a date over another text.
+pub(crate) fn write_day(day: Day, settings: Settings, text: &mut Text)
+    ensures { text.new.items ≡ shown_day settings day }
+{
     if settings.century {
-        with_century(day)
+        write_with_century(day, text);
     } else {
-        without_century(day)
+        write_without_century(day, text);
     }
 }
 
-/// A date's text with the last two digits of its year.
+/// Writes a date's text with the last two digits of its year.
 #[tactic(auto, unfolding(crate::specs::Shown::shown_day))]
-fn without_century(day: Day) -> Text
-    ensures { (settings : AnySettings) → settings.century ≡ false → result.items ≡ shown_day settings day }
+fn write_without_century(day: Day, text: &mut Text)
+    ensures { (settings : AnySettings) → settings.century ≡ false → text.new.items ≡ shown_day settings day }
 {
     let Some(parts) = day.parts() else {
-        return text_from(b"  /  /  ");
+        return write(b"  /  /  ", text);
     };
     let [month_ten, month] = two_digits(u16::from(parts.month));
     let [day_ten, day] = two_digits(u16::from(parts.day));
     let [year_ten, year] = two_digits(parts.year);
-    text_from(&[month_ten, month, b'/', day_ten, day, b'/', year_ten, year])
+    write(
+        &[month_ten, month, b'/', day_ten, day, b'/', year_ten, year],
+        text,
+    );
 }
 
-/// A date's text with its year whole.
+/// Writes a date's text with its year whole.
 #[tactic(auto, unfolding(crate::specs::Shown::shown_day))]
-fn with_century(day: Day) -> Text
-    ensures { (settings : AnySettings) → settings.century ≡ true → result.items ≡ shown_day settings day }
+fn write_with_century(day: Day, text: &mut Text)
+    ensures { (settings : AnySettings) → settings.century ≡ true → text.new.items ≡ shown_day settings day }
 {
     let Some(parts) = day.parts() else {
-        return text_from(b"  /  /    ");
+        return write(b"  /  /    ", text);
     };
     let [month_ten, month] = two_digits(u16::from(parts.month));
     let [day_ten, day] = two_digits(u16::from(parts.day));
     let [a, b, c, d] = four_digits(parts.year);
-    text_from(&[month_ten, month, b'/', day_ten, day, b'/', a, b, c, d])
+    write(
+        &[month_ten, month, b'/', day_ten, day, b'/', a, b, c, d],
+        text,
+    );
 }
 
 /// The last two digits of a number.

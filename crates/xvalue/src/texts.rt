@@ -10,12 +10,15 @@ ghost use Rattle.xvalue.specs.Texts.{fitting, equal_texts, first_or_blank, is_te
 ghost use Rattle.xvalue.specs.Texts.{joined_moved, count_of, bytes_cut_from, last_part, repeated, stuffed, first_place};
 ghost use Rattle.xvalue.specs.Texts.{place_number, first_is, first_byte, byte_text, text_begins_with};
 
-use crate::text::{Text, text_from};
+use crate::text::Text;
 use fixed_num::laws::print_fills_its_field;
 use fixed_num::{Num, without_last_blanks};
 
 /// The most bytes of a text.
 const MOST_BYTES: usize = 254;
+
+/// A longest text of blanks.
+const BLANKS: &[u8] = &[b' '; MOST_BYTES];
 
 /// Whether two texts are equal: with `exact` on where they are the same but for the blanks at their ends, else where
 /// the first begins with the second.
@@ -88,37 +91,38 @@ pub fn part_from(bytes: &[u8], place: usize, count: usize) -> &[u8]
     }
 }
 
-/// The text of these bytes, cut where they are more than 254.
-pub fn fitting(bytes: &[u8]) -> Text
-    ensures { result.items ≡ fitting bytes.now }
+/// Writes these bytes over a text, cut at 254. This and the next functions leave nothing of what the text was.
+pub fn write(bytes: &[u8], text: &mut Text)
+    ensures { text.new.items ≡ fitting bytes.now }
 {
-    text_from(front(bytes, MOST_BYTES))
+    text.clear();
+    append(text, bytes);
 }
 
-/// The texts one behind the other, cut at 254 bytes.
-pub fn joined(left: &[u8], right: &[u8]) -> Text
-    ensures { result.items ≡ fitting (left.now ++ right.now) }
+/// Writes two texts one behind the other, cut at 254 bytes.
+pub fn write_joined(left: &[u8], right: &[u8], text: &mut Text)
+    ensures { text.new.items ≡ fitting (left.now ++ right.now) }
 {
-    of_parts(left, right, &[])
+    write_parts(left, right, &[], text);
 }
 
-/// The texts one behind the other, the blanks at the end of the first moved to the end of both, then cut at 254 bytes.
-pub fn joined_moved(left: &[u8], right: &[u8]) -> Text
-    ensures { result.items ≡ fitting (joined_moved left.now right.now) }
+/// Writes two texts one behind the other, the blanks at the end of the first moved to the end of both, then cut at 254
+/// bytes.
+pub fn write_joined_moved(left: &[u8], right: &[u8], text: &mut Text)
+    ensures { text.new.items ≡ fitting (joined_moved left.now right.now) }
 {
     let begin = without_last_blanks(left);
-    of_parts(begin, right, behind(left, begin.len()))
+    write_parts(begin, right, behind(left, begin.len()), text);
 }
 
-/// Three texts one behind the other, cut at 254 bytes.
-fn of_parts(first: &[u8], second: &[u8], third: &[u8]) -> Text
-    ensures { result.items ≡ fitting (first.now ++ second.now ++ third.now) }
+/// Writes three texts one behind the other, cut at 254 bytes.
+fn write_parts(first: &[u8], second: &[u8], third: &[u8], text: &mut Text)
+    ensures { text.new.items ≡ fitting (first.now ++ second.now ++ third.now) }
 {
-    let mut text = Text::new();
-    append(&mut text, first);
-    append(&mut text, second);
-    append(&mut text, third);
-    text
+    text.clear();
+    append(text, first);
+    append(text, second);
+    append(text, third);
 }
 
 /// Appends as many of these bytes as a text has room for. It takes no memory.
@@ -131,55 +135,51 @@ pub fn append(text: &mut Text, bytes: &[u8])
     }
 }
 
-/// The text whose `count` bytes from a place on give way to others, cut at 254 bytes. The place counts from 1 and is
-/// brought into 1 to one past the end.
-pub fn stuffed(bytes: &[u8], place: usize, count: usize, others: &[u8]) -> Text
-    ensures { result.items ≡ fitting (stuffed place count others.now bytes.now) }
+/// Writes a text whose `count` bytes from a place on give way to others, cut at 254 bytes. The place counts from 1 and
+/// is brought into 1 to one past the end.
+pub fn write_stuffed(bytes: &[u8], place: usize, count: usize, others: &[u8], text: &mut Text)
+    ensures { text.new.items ≡ fitting (stuffed place count others.now bytes.now) }
 {
     let before = front(bytes, place.saturating_sub(1));
-    of_parts(before, others, behind(behind(bytes, before.len()), count))
+    write_parts(
+        before,
+        others,
+        behind(behind(bytes, before.len()), count),
+        text,
+    );
 }
 
-/// A text so many times, cut at 254 bytes.
-pub fn repeated(bytes: &[u8], count: usize) -> Text
-    ensures { result.items ≡ fitting (repeated count bytes.now) }
+/// Writes a text so many times, cut at 254 bytes.
+pub fn write_repeated(bytes: &[u8], count: usize, text: &mut Text)
+    ensures { text.new.items ≡ fitting (repeated count bytes.now) }
 {
-    let mut text = Text::new();
+    text.clear();
     for _ in 0..count.min(MOST_BYTES) {
-        append(&mut text, bytes);
+        append(text, bytes);
     }
-    text
 }
 
-/// So many blanks, at most 254.
-pub fn blanks(count: usize) -> Text
-    ensures { result.items ≡ fitting (replicate count 32) }
+/// Writes so many blanks, at most 254.
+pub fn write_blanks(count: usize, text: &mut Text)
+    ensures { text.new.items ≡ fitting (replicate count 32) }
 {
-    text_from(front(&[b' '; MOST_BYTES], count))
+    write(front(BLANKS, count), text);
 }
 
-/// The text with its ASCII letters as capitals, cut at 254 bytes.
-pub fn upper(bytes: &[u8]) -> Text
-    ensures { result.items ≡ fitting (map to_ascii_uppercase bytes.now) }
+/// Writes a text with its ASCII letters as capitals, cut at 254 bytes.
+pub fn write_upper(bytes: &[u8], text: &mut Text)
+    ensures { text.new.items ≡ fitting (map to_ascii_uppercase bytes.now) }
 {
-    let text = fitting(bytes);
-    let mut capitals = Text::new();
-    for byte in text.as_slice() {
-        capitals.push(byte.to_ascii_uppercase());
-    }
-    capitals
+    write(bytes, text);
+    text.as_mut_slice().make_ascii_uppercase();
 }
 
-/// The text with its ASCII letters as small ones, cut at 254 bytes.
-pub fn lower(bytes: &[u8]) -> Text
-    ensures { result.items ≡ fitting (map to_ascii_lowercase bytes.now) }
+/// Writes a text with its ASCII letters as small ones, cut at 254 bytes.
+pub fn write_lower(bytes: &[u8], text: &mut Text)
+    ensures { text.new.items ≡ fitting (map to_ascii_lowercase bytes.now) }
 {
-    let text = fitting(bytes);
-    let mut small = Text::new();
-    for byte in text.as_slice() {
-        small.push(byte.to_ascii_lowercase());
-    }
-    small
+    write(bytes, text);
+    text.as_mut_slice().make_ascii_lowercase();
 }
 
 /// Whether a text begins with another. The first bytes are compared without a call, since they mostly tell.
@@ -272,24 +272,23 @@ pub fn count_of(number: Num) -> usize
     number.whole().max(0) as usize
 }
 
-/// The text of the byte that is a number's whole part, empty where there is no such byte.
-pub fn byte_text(number: Num) -> Text
-    ensures { result.items ≡ fitting (byte_text (whole_part number)) }
+/// Writes the byte that is a number's whole part, and nothing where there is no such byte.
+pub fn write_byte(number: Num, text: &mut Text)
+    ensures { text.new.items ≡ fitting (byte_text (whole_part number)) }
 {
     match u8::try_from(number.whole()) {
-        Ok(byte) => text_from(&[byte]),
-        Err(_) => Text::new(),
+        Ok(byte) => write(&[byte], text),
+        Err(_) => text.clear(),
     }
 }
 
-/// A number right in so many places (at most 254) with so many decimals (at most 15); asterisks where it is longer, and
-/// of the asterisk value.
-pub fn printed(number: Num, width: usize, decimals: usize) -> Text
-    ensures { result.items ≡ fitting (printed_in (min width 254) (min decimals 15) number) }
+/// Writes a number right in so many places (at most 254) with so many decimals (at most 15); asterisks where it is
+/// longer, and of the asterisk value.
+pub fn write_printed(number: Num, width: usize, decimals: usize, text: &mut Text)
+    ensures { text.new.items ≡ fitting (printed_in (min width 254) (min decimals 15) number) }
 {
     print_fills_its_field();
     let width = width.min(MOST_BYTES);
-    let mut field = blanks(width);
-    number.print(width, decimals.min(15) as u8, field.as_mut_slice());
-    field
+    write_blanks(width, text);
+    number.print(width, decimals.min(15) as u8, text.as_mut_slice());
 }

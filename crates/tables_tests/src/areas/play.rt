@@ -15,7 +15,7 @@ use row_moves::Spent;
 use std::alloc::Global;
 use std::cell::Cell;
 use work_area::Store;
-use xvalue::{Lent, Text, Value};
+use xvalue::{Kind, Lent, Text, Value, text_from};
 
 /// A call of a store: of a table by its number, of indexes by the figures of theirs, and texts into the first field.
 #[derive(Clone, Copy)]
@@ -151,9 +151,9 @@ pub(crate) enum Shows<'a> {
 }
 
 /// Whether a value is this text.
-fn is_text(value: &Value, text: &[u8]) -> bool {
-    match value {
-        Value::Text(held) => held.as_slice() == text,
+fn is_text(value: &Lent<'_>, text: &[u8]) -> bool {
+    match value.kind() {
+        Kind::Text => value.text() == text,
         _ => false,
     }
 }
@@ -169,7 +169,7 @@ fn sees(shows: Shows<'_>, row: &Row<'_>) -> bool {
         Shows::Nothing => false,
         Shows::From(number) => row.record() >= number,
         Shows::Of(count) => row.count() == count,
-        Shows::Holding(text) => 0 < row.fields() && is_text(&row.value(0), text),
+        Shows::Holding(text) => 0 < row.fields() && is_text(&row.lent(0), text),
     }
 }
 
@@ -454,8 +454,9 @@ pub(crate) fn first_text<K: KeyList>(store: &Store<K>) -> Option<Text> {
     if !has_field(store) {
         return None;
     }
-    match store.field(store.selected(), 0) {
-        Value::Text(text) => Some(text),
+    let value = store.field(store.selected(), 0);
+    match value.kind() {
+        Kind::Text => Some(text_from(value.text())),
         _ => None,
     }
 }

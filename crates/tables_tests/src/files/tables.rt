@@ -437,7 +437,7 @@ fn put_first(table: &mut Table, from: &Value) -> bool {
 
 /// Whether the value of the first field of the first row is shown so.
 fn first_shows(table: &Table, shown: &[u8]) -> bool {
-    has_first(table) && table.value_at(0, 0).shown(Settings::off()).as_slice() == shown
+    has_first(table) && shows(&table.structure().fields()[0], table.field(0, 0), shown)
 }
 
 /// Writes a text of the field's length into the first field of the first row.

@@ -1,8 +1,10 @@
 // Calls of functions.
 
 use crate::values::spelled::{first_wrong, result_of, result_of_values, value_of};
+use xvalue::apply::write_text;
 use xvalue::{
-    Arithmetic, Fun, Kind, Settings, Text, TextFun, Value, append, eq_text, less_text, signature,
+    Arguments, Arithmetic, Fun, Kind, Settings, Text, TextFun, Value, append, eq_text, less_text,
+    signature, text_from,
 };
 
 /// Calls a row: `E` where EXACT is on, `C` where CENTURY is, else `-`; the number and the name of a function; and its
@@ -142,6 +144,20 @@ fn number(spelled: &str) -> Value {
 
 fn text(spelled: &str) -> Value {
     value_of(Kind::Text, spelled)
+}
+
+#[test]
+fn writes_over_another_text(rt: HostRuntime) {
+    let mut text = text_from(b"a longer text");
+    let given = [text_from(b"Ann")];
+    let arguments = Arguments {
+        numbers: &[],
+        texts: &given,
+        dates: &[],
+        truths: &[],
+    };
+    write_text(TextFun::Upper, Settings::off(), &arguments, &mut text);
+    assert!(rt; text.as_slice() == b"ANN".as_slice());
 }
 
 #[test]

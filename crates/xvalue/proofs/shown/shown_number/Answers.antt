@@ -6,11 +6,11 @@ use Rattle.xvalue.proofs.shown.shown_number.Goals as goal
 pub returns : goal.returns
 unfolding shown_number
 returns c =
-    let digits = c.as_slice-2.result.now in
-    let same = c.as_slice-2.ensures.value in
+    let digits = c.as_slice.result.now in
+    let same = c.as_slice.ensures.value in
     let places : c.saturating_sub.result ≡ 10 - length digits =
     c.saturating_sub.ensures ∙ ap (λ n. 10 - n) (c.len.ensures.value ∙ ap length (sym same)) in
-    c.joined.ensures
-    ∙ ten_places digits c.as_slice.result.now c.saturating_sub.result c.as_slice-2.ensures.fits places
-    (c.as_slice.ensures.value ∙ c.blanks.ensures)
+    c.append.ensures
+    ∙ ten_places digits c.write_blanks.new.text.items c.saturating_sub.result c.as_slice.ensures.fits places
+    c.write_blanks.ensures
     ∙ ap in_ten_places (same ∙ c.text-digits.ensures)

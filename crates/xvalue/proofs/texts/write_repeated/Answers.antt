@@ -2,7 +2,7 @@ use Rattle.std.proofs.Common.{◌≡◌, ◌∙◌, ap, arith}
 use Rattle.std.specs.Prelude.{min}
 use Rattle.xvalue.specs.Texts.{fitting, repeated}
 use Rattle.xvalue.proofs.TextLemmas.{repeated_more, repeated-most}
-use Rattle.xvalue.proofs.texts.repeated.Goals as goal
+use Rattle.xvalue.proofs.texts.write_repeated.Goals as goal
 
 pub loop-preserved : goal.loop-preserved
 loop-preserved c = repeated_more c.loop.counter c.args.bytes.now c.loop.text.items c.append.new.text.items

@@ -3,14 +3,13 @@ use Rattle.std.proofs.lemmas.List.{length-map, get_or-map, take-replicate}
 use Rattle.dbf_file.specs.declared.field.Field.{Field}
 use Rattle.dbf_file.specs.declared.field.Letter.TheVariants.{C}
 use Rattle.dbf_file.specs.Tables.{StructureState, letter_at, decimals_at, row_widths}
-use Rattle.dbf_file.specs.Values.{value_of, value_by}
-use Rattle.open_table.proofs.opened.blank_value.Goals as goal
+use Rattle.dbf_file.specs.Values.{value_by}
+use Rattle.open_table.proofs.opened.blank.Goals as goal
 
 -- the value of so many blanks
 blank_field : (s : StructureState) (f n : ℕ) (field : Field) → f < length s.fields → field ≡ get_or s.fields f field
-    → n ≡ field.width → value_of field (replicate n 32) ≡ value_by (letter_at s f) (decimals_at s f)
+    → n ≡ field.width → value_by field.letter field.decimals (replicate n 32) ≡ value_by (letter_at s f) (decimals_at s f)
     (get_or (map (λ width. replicate width 32) (row_widths s)) f [])
-unfolding value_of
 blank_field s f n field lt is width =
     let letter : letter_at s f ≡ field.letter =
     get_or-map (λ (g : Field). g.letter) s.fields f field C lt ∙ ap (λ (g : Field). g.letter) (sym is) in
@@ -30,5 +29,7 @@ returns c =
     let fields : c.fields.result.now ≡ s.fields =
     c.fields.ensures ∙ ap (λ (t : StructureState). t.fields) c.structure.ensures.same in
     let is = c.index-fields-f.is ∙ ap (λ (fs : List Field). get_or fs c.args.f c.index-fields-f.result) fields in
-    c.value.ensures ∙ ap (value_of c.index-fields-f.result) (take-replicate c.from.result 255 32 (omega arith))
-    ∙ blank_field s c.args.f c.from.result c.index-fields-f.result c.requires is c.from.ensures
+    let field = c.index-fields-f.result in
+    c.lent.ensures
+    ∙ ap (value_by field.letter field.decimals) (take-replicate c.from.result 255 32 (omega arith))
+    ∙ blank_field s c.args.f c.from.result field c.requires is c.from.ensures

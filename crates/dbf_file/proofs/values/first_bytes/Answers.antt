@@ -1,7 +1,7 @@
 use Rattle.std.proofs.Common.{◌∙◌, ℕ, take, length, ap}
 use Rattle.std.proofs.lemmas.List.{take_min}
 use Rattle.std.proofs.Math.Nat.{min_comm}
-use Rattle.open_table.proofs.row.first_bytes.Goals as goal
+use Rattle.dbf_file.proofs.values.first_bytes.Goals as goal
 
 pub returns-clause-same : goal.returns-clause-same
 returns-clause-same c =

@@ -1,7 +1,0 @@
-use Rattle.xvalue.proofs.TextLemmas.{fitting_parts}
-use Rattle.xvalue.proofs.texts.of_parts.Goals as goal
-
-pub returns : goal.returns
-returns c =
-    fitting_parts c.new-text.result.items c.args.first.now c.args.second.now c.args.third.now _ _ _ c.new-text.ensures
-    c.append.ensures c.append-2.ensures c.append-3.ensures

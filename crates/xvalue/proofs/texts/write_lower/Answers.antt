@@ -1,0 +1,8 @@
+use Rattle.std.specs.Char.{to_ascii_lowercase}
+use Rattle.xvalue.proofs.TextLemmas.{mapped_whole}
+use Rattle.xvalue.proofs.texts.write_lower.Goals as goal
+
+pub returns : goal.returns
+returns c =
+    mapped_whole to_ascii_lowercase c.args.bytes.now c.write.new.text.items c.as_mut_slice.result.now
+    c.make_ascii_lowercase.new.self c.write.ensures c.as_mut_slice.ensures.value c.make_ascii_lowercase.ensures.after
