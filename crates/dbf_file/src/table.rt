@@ -2,7 +2,7 @@
 
 ghost use Rattle.std.specs.Prelude.{◌≡◌, ℕ, ◌+◌, ◌*◌, ◌^◌, ◌<◌, ◌≤◌, ◌++◌, ◌∷◌, [], List, length, slice_index};
 ghost use Rattle.std.specs.Prelude.{slice_range, IsTrue, IfOk, OnOk, OnErr, MatchResult, Some, None, ◌⊎◌, vec_capacity};
-ghost use Rattle.std.specs.Prelude.{true, take};
+ghost use Rattle.std.specs.Prelude.{take};
 ghost use Rattle.std.specs.Borrow.{sem};
 ghost use Rattle.dbf_file.specs.declared.stamp.Stamp.{Stamp as TheStamp};
 ghost use Rattle.dbf_file.specs.Fields.{widths_of, size_of as size_of_fields, are_fields};
@@ -325,6 +325,7 @@ impl Table {
     }
 
     /// The bytes of field `f` in row `r`, both counted from 0, as many as a text value may have.
+    #[inline(always)]
     pub fn text_at(&self, r: usize, f: usize) -> &[u8]
         requires row { r < length self.now.rows }
         requires field { f < length self.now.structure.fields }

@@ -13,7 +13,7 @@ ghost use Rattle.dbf_file.specs.Values.{stored_day as day_text_of, logical_text 
 use crate::field::{Field, Letter, MAX_DECIMALS};
 use calendar::{Day, DayParts, with_digits};
 use fixed_num::{Num, Parts, are_digits, without_blanks};
-use xvalue::{Kind, Lent, Text, Value, text_from};
+use xvalue::{Kind, Lent, Text, Value};
 
 /// The most bytes of a text value.
 const TEXT_BYTES: usize = 254;
@@ -151,12 +151,7 @@ pub(crate) fn begins_with_yes(text: &[u8]) -> bool
 pub fn value(field: &Field, text: &[u8]) -> Value
     ensures { result ≡ value_of field.now text.now }
 {
-    match field.letter {
-        Letter::C => Value::Text(text_from(first_bytes(text))),
-        Letter::N => Value::Number(number_in(field.decimals, text)),
-        Letter::D => Value::Date(day_in(text)),
-        Letter::L => Value::Logical(begins_with_yes(text)),
-    }
+    lent(field.letter, field.decimals, text).owned()
 }
 
 /// The value of a text in a field of this letter and these decimals, lent from there.

@@ -510,4 +510,28 @@ GO TOP
 .F.          2
 .T.
 %ended finished 28
+#comparisons joined
+%each 425
+%source
+X = 3
+? X > 2 .AND. X < 5, X > 3 .AND. X < 5, X > 3 .OR. X < 5, X > 3 .OR. X < 2
+? X > 2 .AND. X <> 3, X > 2 .AND. X >= 3, X > 3 .OR. X <= 3, X > 3 .OR. X <> 3
+? X > 2 .AND. X = 3, X = 3 .AND. .NOT. X > 3, X < 3 .OR. X = 4
+T = "AB"
+? T = "A" .AND. X > 2
+N = 0
+DO WHILE N < 9 .AND. X >= 0
+  IF N > 2 .AND. MOD(N, 4) <> 3 .OR. N = 1
+    X = X + 1
+  ENDIF
+  N = N + 1
+ENDDO
+? X, N
+%rows
+.T. .F. .T. .F.
+.F. .T. .T. .F.
+.T. .T. .F.
+.T.
+         8          9
+%ended finished 425
 "#;

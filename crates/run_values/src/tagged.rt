@@ -3,7 +3,6 @@
 ghost use Rattle.std.specs.Prelude.{◌≡◌, ◌≤◌, IfOk, [], length, map, replicate, reverse, slice_get, None};
 ghost use Rattle.run_values.specs.Operands.{no_registers};
 ghost use Rattle.run_values.specs.Standing.{IsTagged};
-ghost use Rattle.run_values.specs.Tagged.{TaggedValues};
 ghost use Rattle.xvalue.specs.Kinds.{kind_of, kind_held};
 
 use crate::operands::{Operand, SLOT_PLACES};

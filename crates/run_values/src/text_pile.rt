@@ -8,7 +8,7 @@ ghost use Rattle.run_values.specs.TextPile.{texts_joined, text_part, top_joined,
 use crate::pile::STACK_LIMIT;
 use std::alloc::{AllocError, Global};
 use std::marker::Model;
-use xvalue::{Text, append};
+use xvalue::{Text, append, write_over};
 
 /// A stack with room for 64 texts, seen as their list, the top first. The room is of texts that are there all the time,
 /// so that a text that is put on it is copied no further than it goes.
@@ -146,16 +146,4 @@ pub(crate) fn copy_into(text: &Text, copy: &mut Text)
     ensures { copy.new ≡ text.now }
 {
     write_over(text.as_slice(), copy);
-}
-
-/// Writes these bytes over a text, which has no others then.
-fn write_over(bytes: &[u8], text: &mut Text)
-    requires { length bytes.now ≤ 254 }
-    ensures { text.new ≡ record { items = bytes.now } }
-{
-    text.clear();
-    match text.try_extend_from_slice(bytes) {
-        Ok(()) => {}
-        Err(_) => unreachable!(),
-    }
 }

@@ -8,6 +8,7 @@ ghost use Rattle.xvalue.specs.declared.kind.Kind.TheVariants.{Logical as OfLogic
 ghost use Rattle.xvalue.specs.Kinds.{kind_of};
 
 use crate::kind::Kind;
+use crate::text::text_from;
 use crate::value::Value;
 use calendar::Day;
 use fixed_num::Num;
@@ -104,6 +105,18 @@ impl<'a> Lent<'a> {
             Value::Text(text) => Lent::of_text(text.as_slice()),
             Value::Date(day) => Lent::of_day(*day),
             Value::Logical(truth) => Lent::of_truth(*truth),
+        }
+    }
+
+    /// The value, its text copied.
+    pub fn owned(&self) -> Value
+        ensures { result ≡ self.now }
+    {
+        match self.kind {
+            Kind::Number => Value::Number(self.number),
+            Kind::Text => Value::Text(text_from(self.text)),
+            Kind::Date => Value::Date(self.day),
+            Kind::Logical => Value::Logical(self.truth),
         }
     }
 

@@ -27,7 +27,7 @@ pub use kind::Kind;
 pub use lent::Lent;
 pub use settings::{Setting, Settings};
 pub use shown::{shown_day, shown_logical, shown_number};
-pub use text::{Text, copy_of, text_from};
+pub use text::{Text, copy_of, text_from, write_over};
 pub use texts::{
     append, begins_with_capital, begins_with_letter, begins_with_small, count_of, eq_text,
     first_byte, first_place, front, last_part, less_text, part_from, place_of,

@@ -12,11 +12,7 @@ pub type Text = ArrayVec<u8, 254>;
 pub fn copy_of(text: &Text) -> Text
     ensures { result ≡ text.now }
 {
-    let mut copy = Text::new();
-    match copy.try_extend_from_slice(text.as_slice()) {
-        Ok(()) => copy,
-        Err(_) => unreachable!(),
-    }
+    text_from(text.as_slice())
 }
 
 /// The text of these bytes.
@@ -25,8 +21,18 @@ pub fn text_from(bytes: &[u8]) -> Text
     ensures { result.items ≡ bytes.now }
 {
     let mut text = Text::new();
+    write_over(bytes, &mut text);
+    text
+}
+
+/// Writes these bytes over a text, which has no others then. It takes no memory.
+pub fn write_over(bytes: &[u8], text: &mut Text)
+    requires { length bytes.now ≤ 254 }
+    ensures { text.new ≡ record { items = bytes.now } }
+{
+    text.clear();
     match text.try_extend_from_slice(bytes) {
-        Ok(()) => text,
+        Ok(()) => {}
         Err(_) => unreachable!(),
     }
 }

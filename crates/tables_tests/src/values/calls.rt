@@ -3,8 +3,8 @@
 use crate::values::spelled::{first_wrong, result_of, result_of_values, value_of};
 use xvalue::apply::write_text;
 use xvalue::{
-    Arguments, Arithmetic, Fun, Kind, Settings, Text, TextFun, Value, append, eq_text, less_text,
-    signature, text_from,
+    Arguments, Arithmetic, Fun, Kind, Lent, Settings, Text, TextFun, Value, append, eq_text,
+    less_text, signature, text_from, write_over,
 };
 
 /// Calls a row: `E` where EXACT is on, `C` where CENTURY is, else `-`; the number and the name of a function; and its
@@ -158,6 +158,22 @@ fn writes_over_another_text(rt: HostRuntime) {
     };
     write_text(TextFun::Upper, Settings::off(), &arguments, &mut text);
     assert!(rt; text.as_slice() == b"ANN".as_slice());
+    write_over(b"Bo", &mut text);
+    assert!(rt; text.as_slice() == b"Bo".as_slice());
+}
+
+/// Whether the value that is spelled so is the same where it was lent and is owned again.
+fn is_owned_alike(kind: Kind, spelled: &str) -> bool {
+    let value = value_of(kind, spelled);
+    let owned = Lent::of(&value).owned();
+    owned.kind() == kind
+        && owned.shown(Settings::off()).as_slice() == value.shown(Settings::off()).as_slice()
+}
+
+#[test]
+fn owns_what_was_lent(rt: HostRuntime) {
+    assert!(rt; is_owned_alike(Kind::Number, "7.50") && is_owned_alike(Kind::Text, "Ann"));
+    assert!(rt; is_owned_alike(Kind::Date, "02/29/88") && is_owned_alike(Kind::Logical, "T"));
 }
 
 #[test]

@@ -8,8 +8,8 @@ use Rattle.open_table.proofs.opened.blank.Goals as goal
 
 -- the value of so many blanks
 blank_field : (s : StructureState) (f n : ℕ) (field : Field) → f < length s.fields → field ≡ get_or s.fields f field
-    → n ≡ field.width → value_by field.letter field.decimals (replicate n 32) ≡ value_by (letter_at s f) (decimals_at s f)
-    (get_or (map (λ width. replicate width 32) (row_widths s)) f [])
+    → n ≡ field.width → value_by field.letter field.decimals (replicate n 32)
+    ≡ value_by (letter_at s f) (decimals_at s f) (get_or (map (λ width. replicate width 32) (row_widths s)) f [])
 blank_field s f n field lt is width =
     let letter : letter_at s f ≡ field.letter =
     get_or-map (λ (g : Field). g.letter) s.fields f field C lt ∙ ap (λ (g : Field). g.letter) (sym is) in

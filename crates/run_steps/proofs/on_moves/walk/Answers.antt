@@ -1,7 +1,7 @@
 use Rattle.std.proofs.Common.{None, refl, ap, sym, subst}
 use Rattle.std.specs.Fn.{FnReturnsAt}
 use Rattle.code_items.specs.declared.instr.MoveInstr.{MoveInstr}
-use Rattle.code_items.specs.declared.instr.MoveInstr.TheVariants.{Top, Bottom, Skip, Go, Seek}
+use Rattle.code_items.specs.declared.instr.MoveInstr.TheVariants.{Top, Bottom, Skip, Seek}
 use Rattle.open_table.specs.Open.{landed}
 use Rattle.work_area.specs.Calls.{top_of, bottom_of, skip_of, seek_of}
 use Rattle.run_steps.specs.Effects.{top, whole_on_top}
