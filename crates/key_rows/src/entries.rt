@@ -336,12 +336,28 @@ fn known(bytes: &[u8]) -> &[u8]
     bytes
 }
 
+// How two keys stand to each other, where one has fewer than eight bytes. If their first four bytes differ, these
+// decide as one number.
+fn compare_short_keys(first: &[u8], second: &[u8]) -> Ordering
+    ensures { result ≡ slice_cmp nat_cmp first.now second.now }
+{
+    if first.len() < 4 || second.len() < 4 {
+        return first.cmp(second);
+    }
+    let front = BigEndian::read_u32(known(first));
+    let other = BigEndian::read_u32(known(second));
+    if front == other {
+        return first.cmp(second);
+    }
+    front.cmp(&other)
+}
+
 // How two keys stand to each other. If their first eight bytes differ, these decide as one number.
 fn compare_keys(first: &[u8], second: &[u8]) -> Ordering
     ensures { result ≡ slice_cmp nat_cmp first.now second.now }
 {
     if first.len() < 8 || second.len() < 8 {
-        return first.cmp(second);
+        return compare_short_keys(first, second);
     }
     let front = BigEndian::read_u64(known(first));
     let other = BigEndian::read_u64(known(second));

@@ -534,4 +534,19 @@ ENDDO
 .T.
          8          9
 %ended finished 425
+#quotients cut
+%each 90
+%source
+X = 1999
+Y = 200
+? INT(X / Y), INT(X / 200), INT(X / 16), INT((0 - X) / 16), INT(X / 2.5)
+N = 70000
+DO WHILE N > 1
+  N = INT(N / 16)
+ENDDO
+? N
+%rows
+        10         10        124       -124        799
+         1
+%ended finished 90
 "#;

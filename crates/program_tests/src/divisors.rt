@@ -2,7 +2,7 @@
 #![tactic(auto)]
 
 use fixed_num::Num;
-use known_divisors::{quotient, reciprocal, remainder};
+use known_divisors::{quotient, reciprocal, remainder, whole_quotient};
 
 /// What is asked of a number and a divisor, or of a divisor alone, `=`, and the answer.
 const DIVISIONS: &str = "\
@@ -22,6 +22,24 @@ quotient 7 0=*
 quotient * 2=*
 quotient 9999999999999999 16=624999999999999.94
 quotient 9999999999999999999 7=*
+whole 100 16=6
+whole 0 16=0
+whole 1994 1000=1
+whole 1999 1000=2
+whole 198 200=0
+whole 199 200=1
+whole 7.5 2=3
+whole 7 0.5=14
+whole -7 2=-3
+whole 7 -2=-3
+whole 7 0=*
+whole * 2=*
+whole 9999999999999999 16=624999999999999
+whole 99999999999999999 1=99999999999999999
+whole 100000000000000000 1=*
+whole 100000000000000000 2=50000000000000000
+whole 999999999999999999 2=*
+whole 9999999999999999999 7=*
 remainder 100 16=4
 remainder 2 3=2
 remainder 9 3=0
@@ -49,12 +67,13 @@ fn read(text: &str) -> Num {
     Num::parse(text.as_bytes())
 }
 
-/// The quotient or the remainder, by any number as the reciprocal.
+/// The quotient, the quotient cut, or the remainder, by any number as the reciprocal.
 fn divided(word: &str, first: Num, second: Num, by: u64) -> Num {
-    if word == "quotient" {
-        return quotient(first, second, by);
+    match word {
+        "quotient" => quotient(first, second, by),
+        "whole" => whole_quotient(first, second, by),
+        _ => remainder(first, second, by),
     }
-    remainder(first, second, by)
 }
 
 /// Whether the answer comes of both numbers, by the divisor's reciprocal and by other numbers in its place.
