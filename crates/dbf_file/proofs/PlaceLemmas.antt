@@ -1,10 +1,10 @@
 -- Bytes put over others, and parts of lists.
 use Rattle.std.proofs.Common.{◌≡◌, ℕ, zero, suc, ◌+◌, ◌<◌, ◌≤◌, List, [], ◌∷◌, ◌++◌, length, get_or, take, drop}
-use Rattle.std.proofs.Common.{sym, ap, ◌∙◌, arith, length-append, append_assoc}
+use Rattle.std.proofs.Common.{refl, sym, ap, ◌∙◌, arith, length-append, append_assoc}
 use Rattle.std.proofs.lemmas.List.{length-take, length-take-le, take-take, take-append-le, drop-append-le, drop-take}
 use Rattle.std.proofs.lemmas.List.{drop-drop}
 use Rattle.std.proofs.lemmas.Slice.{drop-append-drop}
-use Rattle.dbf_file.specs.Fields.{total}
+use Rattle.dbf_file.specs.Fields.{total, places_from}
 use Rattle.dbf_file.specs.Lending.{put_over}
 
 -- the first k bytes are those before the place
@@ -41,3 +41,16 @@ pub total_before : (f : ℕ) (widths : List ℕ) → f < length widths → total
 total_before f [] within = absurd (omega arith)
 total_before zero (w ∷ ws) within = omega arith
 total_before (suc f) (w ∷ ws) within = let more = total_before f ws (omega arith) in omega arith
+
+-- ---- where the fields of a record begin
+
+pub length-places : (place : ℕ) (widths : List ℕ) → length (places_from place widths) ≡ length widths
+length-places place [] = refl
+length-places place (w ∷ ws) = ap suc (length-places (place + w) ws)
+
+pub place_at : (f place d : ℕ) (widths : List ℕ) → f < length widths
+    → get_or (places_from place widths) f d ≡ place + total (take f widths)
+place_at f place d [] within = absurd (omega arith)
+place_at zero place d (w ∷ ws) within = omega arith
+place_at (suc f) place d (w ∷ ws) within =
+    let rest = place_at f (place + w) d ws (omega arith) in omega (arith, rest)

@@ -179,15 +179,13 @@ field_below s f below =
     let same : length (row_widths s) ≡ length s.fields = length-map s.fields (λ f. f.width) in omega arith
 
 pub span_within : (s : StructureState) (fields : List Field) (size n r f start width : ℕ) → fields ≡ s.fields
-    → start ≡ place_of_field (widths_of fields) r f → width ≡ get_or (widths_of fields) f 0 →
+    → start ≡ place_of_field (row_widths s) r f → width ≡ get_or (widths_of fields) f 0 →
     size ≡ size_of (row_widths s) → r < n → f < length s.fields → start + width ≤ n * size
 span_within s fields size n r f start width same at wide right row field =
     let within = field_within (row_widths s) n r f row (field_below s f field) in
-    let a : start ≡ place_of_field (row_widths s) r f =
-    at ∙ ap (λ (fs : List Field). place_of_field (widths_of fs) r f) same in
     let b : width ≡ get_or (row_widths s) f 0 = wide ∙ ap (λ (fs : List Field). get_or (widths_of fs) f 0) same in
     let c : n * size ≡ n * size_of (row_widths s) = ap (λ k. n * k) right in
-    omega arith
+    omega (arith, at)
 
 pub mark_read : (s : StructureState) (size n r place b : ℕ) (xs : List ℕ) → IsKept s size n xs → r < n
     → place ≡ r * size → place + size ≤ n * size → b ≡ get_or xs place b

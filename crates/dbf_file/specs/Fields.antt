@@ -52,6 +52,11 @@ total (width ∷ widths) = width + total widths
 abbrev pub size_of : List ℕ → ℕ
 size_of widths = 1 + total widths
 
+-- where fields of these widths begin, the first of them at a place
+abbrev pub places_from : ℕ → List ℕ → List ℕ
+places_from place [] = []
+places_from place (width ∷ widths) = place ∷ places_from (place + width) widths
+
 -- the fields of a table: 1 to 128, each a field, with different names, and a record of at most 4000 bytes
 unfoldable pub are_fields : List Field → Bool
 are_fields fields = nat_le 1 (length fields) && nat_le (length fields) 128 && fields_go_on [] fields

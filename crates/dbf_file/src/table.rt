@@ -5,7 +5,7 @@ ghost use Rattle.std.specs.Prelude.{slice_range, IsTrue, IfOk, OnOk, OnErr, Matc
 ghost use Rattle.std.specs.Prelude.{take};
 ghost use Rattle.std.specs.Borrow.{sem};
 ghost use Rattle.dbf_file.specs.declared.stamp.Stamp.{Stamp as TheStamp};
-ghost use Rattle.dbf_file.specs.Fields.{widths_of, size_of as size_of_fields, are_fields};
+ghost use Rattle.dbf_file.specs.Fields.{size_of as size_of_fields, are_fields};
 ghost use Rattle.dbf_file.specs.Descriptors.{field_head_text};
 ghost use Rattle.dbf_file.specs.Rows.{Row, rows_in, is_marked_at, text_at, with_text, with_mark, blank_row, unmarked};
 ghost use Rattle.dbf_file.specs.Tables.{StructureState, IsStructure, AreRows, DbfText, dbf_text, row_widths};
@@ -62,15 +62,14 @@ impl Model for Table {
 }
 
 /// Where field `f` of row `r` begins among the records, each of `size` bytes.
-fn place_of(fields: &[Field], size: usize, r: usize, f: usize) -> usize
-    requires size { size ≡ size_of_fields (widths_of fields.now) }
-    requires few { length fields.now ≤ 128 }
-    requires field { f < length fields.now }
+fn place_of(structure: &Structure, size: usize, r: usize, f: usize) -> usize
+    requires size { size ≡ size_of_fields (row_widths structure.now) }
+    requires field { f < length structure.now.fields }
     requires row { r < 2 ^ 32 }
     requires small { size ≤ 4000 }
-    ensures { result ≡ place_of_field (widths_of fields.now) r f }
+    ensures { result ≡ place_of_field (row_widths structure.now) r f }
 {
-    r * size + size_of(&fields[..f])
+    r * size + structure.place(f)
 }
 
 /// The table of this layout.
@@ -182,9 +181,8 @@ fn span_of(structure: &Structure, size: usize, rows: usize, r: usize, f: usize) 
     ensures end { result.1 ≡ result.0 + slice_index (row_widths structure.now) f }
     ensures within { result.1 ≤ rows * size }
 {
-    let fields = structure.fields();
-    let start = place_of(fields, size, r, f);
-    (start, start + width_of(fields, f))
+    let start = place_of(structure, size, r, f);
+    (start, start + width_of(structure.fields(), f))
 }
 
 /// How many decimals field `f` has.

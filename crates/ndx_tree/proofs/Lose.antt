@@ -13,7 +13,8 @@ use Rattle.ndx_tree.proofs.Divide.{least_root_one, least_root_two, joined_length
 use Rattle.ndx_tree.proofs.Divide.{filled_from}
 use Rattle.ndx_tree.proofs.Take.{placed_child}
 use Rattle.ndx_tree.proofs.Remove.{has_at_place, remove_at_place, rising_without, has_in_child, shrunk_pairs, cut_set}
-use Rattle.ndx_tree.proofs.Remove.{but_set}
+use Rattle.ndx_tree.proofs.Remove.{but_set, cut_set_same, last_without}
+use Rattle.ndx_tree.proofs.Mend.{cut_at}
 
 tall_inner : (h m : ℕ) (cs : List PageView) → AreChildren h m cs → 2 ≤ length cs → 0 < h
     → least_root (h + 1) ≤ length (pairs_of_pages cs)
@@ -86,6 +87,7 @@ pub record IsLosing (now : PageView) (most : ℕ) (es : List Pair) (cs : List Pa
   pub some : (d : PageView) → 0 < length (get_or (set cs at a) at d).pairs
   pub cut : (d : PageView) (t : Pair) → last_of (get_or (set cs at a) at d).pairs ≡ Some t
       → IsCut (set es at t) (set cs at a)
+  pub kept : (d : Pair) → at < length es → is_before x (get_or es at d) ≡ true → IsCut es (set cs at a)
   pub mending : (es1 : List Pair) → IsCut es1 (set cs at a) → length es1 ≡ length es
       → (h : ℕ) × IsMending h most at es1 (set cs at a)
   pub done : (es1 es2 : List Pair) (cs2 : List PageView) → length es1 ≡ length es → Mends most es1 (set cs at a) es2 cs2
@@ -98,12 +100,15 @@ same_height (c ∷ cs) zero a h q e = ap (λ k. k + 1) (q (omega arith)) ∙ sym
 same_height (c ∷ cs) (suc at) a h q e = refl
 
 pub child_loses : (now : PageView) (most : ℕ) (es : List Pair) (cs : List PageView) (x : Pair) (at : ℕ)
-    (old a : PageView) → view_of most es cs ≡ now → IsFramedPage most es cs → 0 < length cs → 0 < length es
-    → length es ≤ most → at ≡ place_of x es → old ≡ get_or cs at old → Removes old x a true
-    → IsLosing now most es cs x at a
-child_loses now most es [] x at old a e p n two full g is r = absurd (omega arith)
-child_loses now most es (c ∷ cs) x at old a e p n two full g is r =
+    (old a : PageView) → view_of most es cs ≡ now → IsFramedPage most es cs → 0 < length cs
+    → (1 < now.height → 0 < now.count) → length es ≤ most → at ≡ place_of x es → old ≡ get_or cs at old
+    → Removes old x a true → IsLosing now most es cs x at a
+child_loses now most es [] x at old a e p n inner full g is r = absurd (omega arith)
+child_loses now most es (c ∷ cs) x at old a e p n inner full g is r =
     let child = losing_child most es (c ∷ cs) x at old p n g is in
+    let height : now.height ≡ old.height + 1 = sym (ap (λ (v : PageView). v.height) e) ∙ child.2 in
+    let count : now.count ≡ length es = sym (ap (λ (v : PageView). v.count) e) in
+    let two : 0 < length es = subst (λ k. 0 < k) count (inner (omega (arith, child.3.high))) in
     let cut0 : IsCut es (c ∷ cs) = p.framed.0 in
     let level : old.height ≡ c.height = let q : c.height + 1 ≡ old.height + 1 = child.2 in omega arith in
     let one : IsChild c.height most old = subst (λ k. IsChild k most old) level child.3 in
@@ -133,6 +138,9 @@ child_loses now most es (c ∷ cs) x at old a e p n two full g is r =
     record {
       some = λ d. subst (λ (v : PageView). 0 < length v.pairs) (sym (there d)) nonempty;
       cut = λ d t l. cut_set at es (c ∷ cs) a t cut0 (ap (λ (v : PageView). last_of v.pairs) (sym (there d)) ∙ l);
+      kept = λ d l b. cut_set_same at es (c ∷ cs) a d cut0 l (ap last_of r.1
+          ∙ last_without x (get_or es at d) old.pairs (ap (λ (v : PageView). last_of v.pairs) is
+          ∙ cut_at at es (c ∷ cs) old d cut0 l) b);
       mending = λ es1 q k. (
         c.height,
         record {

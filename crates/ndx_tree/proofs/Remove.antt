@@ -138,6 +138,32 @@ cut_set i (s ∷ ss) [] a t h l = absurd h
 cut_set zero (s ∷ ss) (c ∷ cs) a t h l = (l, h.1)
 cut_set (suc i) (s ∷ ss) (c ∷ cs) a t h l = (h.0, cut_set i ss cs a t h.1 l)
 
+pub cut_set_same : (i : ℕ) (ss : List Pair) (cs : List PageView) (a : PageView) (d : Pair) → IsCut ss cs
+    → i < length ss → last_of a.pairs ≡ Some (get_or ss i d) → IsCut ss (set cs i a)
+cut_set_same i [] cs a d h p l = absurd (omega arith)
+cut_set_same i (s ∷ ss) [] a d h p l = absurd h
+cut_set_same zero (s ∷ ss) (c ∷ cs) a d h p l = (l, h.1)
+cut_set_same (suc i) (s ∷ ss) (c ∷ cs) a d h p l = (h.0, cut_set_same i ss cs a d h.1 (omega arith) l)
+
+last_over : (y s : Pair) (l : List Pair) → last_of l ≡ Some s → last_of (y ∷ l) ≡ Some s
+last_over y s [] e = absurd cc
+last_over y s (z ∷ l) e = e
+
+pub last_without : (x s : Pair) (l : List Pair) → last_of l ≡ Some s → is_before x s ≡ true
+    → last_of (without_pair x l) ≡ Some s
+last_without x s [] e b = absurd cc
+last_without x s (y ∷ []) e b =
+    let q : y ≡ s = cc in
+    let h : is_before x y ≡ true = ap (is_before x) q ∙ b in
+    rw h (elim (is_before y x) as (λ v. last_of (cond v (y ∷ []) (y ∷ [])) ≡ Some s) [ true ↦ e | false ↦ e ])
+last_without x s (y ∷ z ∷ l) e b =
+    elim (is_before y x) as (λ v. last_of (cond v (y ∷ without_pair x (z ∷ l))
+    (cond (is_before x y) (y ∷ z ∷ l) (z ∷ l))) ≡ Some s) [
+      | true ↦ last_over y s (without_pair x (z ∷ l)) (last_without x s (z ∷ l) e b)
+      | false ↦ elim (is_before x y) as (λ v. last_of (cond v (y ∷ z ∷ l) (z ∷ l)) ≡ Some s)
+          [ true ↦ e | false ↦ e ]
+    ]
+
 -- the children i and i + 1 become n
 abbrev pub merged : List PageView → ℕ → PageView → List PageView
 merged cs i n = set (take (suc i) cs ++ drop (suc (suc i)) cs) i n

@@ -13,7 +13,7 @@ ghost use Rattle.ndx_tree.specs.Pages.{PageView, pairs_of_pages, view_of, Insert
 ghost use Rattle.ndx_tree.specs.Pages.{IsFramedPage};
 ghost use Rattle.ndx_tree.specs.Pages.{IsChild, IsCut, IsMending, IsUneven, Evens, Mends, Divides};
 ghost use Rattle.ndx_tree.specs.Blanks.{IsBlank, IsInnerBlank, IsPool};
-ghost use Rattle.key_lists.specs.Pairs.{Pair};
+ghost use Rattle.key_lists.specs.Pairs.{Pair, is_before};
 ghost use Rattle.key_rows.specs.Flat.{HaveKeys};
 ghost use Rattle.ndx_tree.specs.Rooms.{AreKeyed, room_for};
 
@@ -191,7 +191,7 @@ impl TreePage {
         if !self.children[at].remove(key, number) {
             return false;
         }
-        refresh(&mut self.entries, &self.children, at);
+        refresh(&mut self.entries, &self.children, at, key, number);
         mend(self.most, &mut self.entries, &mut self.children, at);
         true
     }
@@ -469,23 +469,31 @@ fn look(seen: &mut usize)
     *seen = seen.saturating_add(1);
 }
 
-// Makes the separator after a child its last pair again.
-fn refresh(entries: &mut Entries, children: &[TreePage], at: usize)
+// Makes the separator after a child its last pair again, once a pair was taken out of the child. A separator that
+// stands after that pair is its last pair still.
+fn refresh(entries: &mut Entries, children: &[TreePage], at: usize, key: &[u8], number: u32)
     requires within { at < length children.now }
     requires alike { (k : ℕ) × HaveKeys k entries.old.items × HaveKeys k (pairs_of_pages children.now)
         × (length entries.old.items * (k + 4) ≤ entries.old.room) }
     requires some { (d : PageView) → 0 < length (slice_index_or children.now at d).pairs }
     requires cut { (d : PageView) (t : Pair) → last_of (slice_index_or children.now at d).pairs ≡ Some t
         → IsCut (slice_set entries.old.items at t) children.now }
+    requires kept { (d : Pair) → at < length entries.old.items
+        → is_before (key.now, number) (slice_index_or entries.old.items at d) ≡ true
+        → IsCut entries.old.items children.now }
     ensures cut { IsCut entries.new.items children.now }
     ensures len { length entries.new.items ≡ length entries.old.items }
     ensures room { entries.old.room ≤ entries.new.room }
 {
+    if at >= entries.len() {
+        return;
+    }
+    if entries.get(at).is_after(key, number) {
+        return;
+    }
     let mut seen = 0;
     let last = children[at].last_pair(&mut seen);
-    if at < entries.len() {
-        entries.set(at, &last);
-    }
+    entries.set(at, &last);
 }
 
 // The first of the child at a place and a neighbour of it.

@@ -2,12 +2,12 @@
 use Rattle.std.proofs.Common.{◌≡◌, ℕ, ◌<◌, not, ◌||◌, List, [], ◌∷◌, ◌++◌, length, get_or, set, map, sym, ap, ◌∙◌}
 use Rattle.std.proofs.Common.{subst}
 use Rattle.std.specs.List.{All, Contains}
-use Rattle.std.specs.Prelude.{IfSome}
+use Rattle.std.specs.Prelude.{IfSome, is_none, Option, Some, None, true}
 use Rattle.std.proofs.lemmas.List.{set-set, set-get_or, get_or-set_same}
 use Rattle.dbf_file.specs.Rows.{Row, row_at, no_row, text_at, with_text}
 use Rattle.dbf_file.specs.Tables.{StructureState}
 use Rattle.shape.specs.declared.parts.KeyPart.{KeyPart}
-use Rattle.row_keys.specs.Lists.{IsExact, IsAsBefore, HasAdded, HasFollowed, row_pair, index_list}
+use Rattle.row_keys.specs.Lists.{IndexState, IsExact, IsAsBefore, HasAdded, HasFollowed, row_pair, index_list}
 use Rattle.row_keys.proofs.IndexLemmas.{ListLaw, exact_same, exact-absent, exact-added}
 use Rattle.open_table.specs.Marks.{left_stale, is_among, with_stale}
 use Rattle.open_table.specs.Slots.{SlotState, mark_of, IsListed, IsSlot, GoesBy, Along, left_if_open}
@@ -64,6 +64,22 @@ put_back_text rows r f text lt =
     ∙ ap (λ ts. set rows r (record { marked = marked; texts = ts }))
     (set-set texts f text (text_at rows r f) ∙ set-get_or texts f [])
     ∙ set-get_or rows r no_row
+
+unlisted : (index : Option IndexState) (P : IndexState → Type 0) → is_none index ≡ true → IfSome index P
+unlisted None P e = tt
+unlisted (Some x) P e = absurd cc
+
+-- where none has a list, the rows don't matter
+pub stale_exact : (s : StructureState) (rows others : List Row) (slots : List SlotState) → All (IsSlot s rows) slots
+    → All (λ (slot : SlotState). is_none slot.index ≡ true) slots → All (IsSlot s others) slots
+stale_exact s rows others slots sound stale = λ i d lt.
+    let slot = get_or slots i d in
+    record {
+      key = (sound i d lt).key;
+      text = (sound i d lt).text;
+      listed = unlisted slot.index (IsListed (IsExact s others) slot.parts slot.text) (stale i d lt);
+      idle = (sound i d lt).idle;
+    }
 
 pub follows_exact : (s : StructureState) (rows others : List Row) (left new : List SlotState) → All (IsSlot s rows) left
     → Along (GoesBy (HasFollowed s others)) left new → All (IsSlot s others) new

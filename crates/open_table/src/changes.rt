@@ -10,7 +10,7 @@ ghost use Rattle.open_table.specs.Slots.{IsSlot, mark_of};
 ghost use Rattle.xvalue.specs.Kinds.{kind_of};
 
 use crate::slot::Slot;
-use crate::slots::{add_all, commit_all, follow_all, leave_all, make_all, reserve_all};
+use crate::slots::{add_all, are_stale, commit_all, follow_all, leave_all, make_all, reserve_all};
 use dbf_file::Table;
 use key_lists::KeyList;
 use row_keys::Kept;
@@ -71,6 +71,10 @@ pub(crate) fn replace<K: KeyList>(
     index_lists();
     reserve_all(slots, list)?;
     leave_all(slots, list);
+    if are_stale(slots) {
+        table.put_at(r, f, from);
+        return Ok(());
+    }
     let mut room = [0; 255];
     let before = text_of(table, r, f, &mut room);
     table.put_at(r, f, from);

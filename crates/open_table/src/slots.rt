@@ -1,7 +1,7 @@
 //! The declared indexes of a table, all at once.
 
 ghost use Rattle.std.specs.Prelude.{◌≡◌, ◌+◌, ◌<◌, ◌≤◌, ◌^◌, IfSome, OnOk, OnErr, Contains, All};
-ghost use Rattle.std.specs.Prelude.{length, slice_index};
+ghost use Rattle.std.specs.Prelude.{is_none, length, slice_index, true};
 ghost use Rattle.dbf_file.specs.Rows.{with_text};
 ghost use Rattle.dbf_file.specs.Tables.{row_widths};
 ghost use Rattle.row_keys.specs.Lists.{kept_rows, row_pair, IsExact, IsIndexOf, IsAsBefore, HasAdded, HasFollowed};
@@ -36,6 +36,13 @@ pub(crate) fn leave_all<K: KeyList>(slots: &mut Vec<Slot<K>>, list: &[u8])
     for slot in slots.iter_mut() {
         slot.leave(list);
     }
+}
+
+/// Whether no index has a list.
+pub(crate) fn are_stale<K: KeyList>(slots: &Vec<Slot<K>>) -> bool
+    ensures { result ≡ true → All (λ slot. is_none slot.index ≡ true) slots.now.items }
+{
+    slots.iter().all(|slot| slot.is_stale())
 }
 
 /// Puts the pair of row `r`, counted from 0, into each list.

@@ -1,6 +1,6 @@
 // Files byte by byte, and the rules of fields.
 
-ghost use Rattle.std.specs.Prelude.{◌≡◌, ◌<◌, length, IsTrue};
+ghost use Rattle.std.specs.Prelude.{◌≡◌, ◌<◌, ◌≤◌, length, IsTrue};
 
 use crate::files::bytes::set;
 use arrayvec::ArrayVec;
@@ -547,6 +547,69 @@ fn pack_keeps_the_unmarked_rows(alloc: Global) -> Result<bool, AllocError> {
     }
 }
 
+/// What a field holds here whose number is below 100: the number in two digits, and then twice its row's letter. A
+/// field takes as many bytes of it as it is wide.
+fn text_here(number: u8, letter: u8) -> [u8; 4] {
+    [b'0' + number / 10, b'0' + number % 10, letter, letter]
+}
+
+/// How wide a field of this number is here: two to four bytes.
+fn width_here(number: u8) -> u8
+    ensures { result ≤ 4 }
+{
+    2 + number % 3
+}
+
+/// Puts the descriptors of forty fields, whose widths differ, behind the others.
+fn push_forty_fields(file: &mut Vec<u8>) -> Result<(), AllocError> {
+    for number in 0..40_u8 {
+        let [tens, ones, _, _] = text_here(number, b' ');
+        push_descriptor(file, &[b'F', tens, ones], b'C', width_here(number), 0)?;
+    }
+    Ok(())
+}
+
+/// Puts a live row of forty fields behind the others.
+fn push_row_of_forty(file: &mut Vec<u8>, letter: u8) -> Result<(), AllocError> {
+    file.push(b' ')?;
+    for number in 0..40_u8 {
+        let text = text_here(number, letter);
+        file.extend_from_slice(&text[..usize::from(width_here(number))])?;
+    }
+    Ok(())
+}
+
+/// Two rows of forty fields, 120 bytes each with their marks.
+fn forty_fields(alloc: Global) -> Result<Vec<u8>, AllocError> {
+    let mut file = Vec::new(alloc);
+    push_front(&mut file, 3, 2, 1313, 120)?;
+    push_forty_fields(&mut file)?;
+    file.push(13)?;
+    push_row_of_forty(&mut file, b'a')?;
+    push_row_of_forty(&mut file, b'b')?;
+    Ok(file)
+}
+
+/// Whether each of forty fields of a row is read where it stands.
+fn holds_row_of_forty(table: &Table, r: usize, letter: u8) -> bool {
+    for number in 0..40_u8 {
+        let text = text_here(number, letter);
+        let wanted = &text[..usize::from(width_here(number))];
+        if !holds(table, r, usize::from(number), wanted) {
+            return false;
+        }
+    }
+    true
+}
+
+fn each_of_forty_fields_is_read(alloc: Global) -> Result<bool, AllocError> {
+    let file = forty_fields(alloc)?;
+    let Some(table) = table_of(alloc, file.as_slice(), 2) else {
+        return Ok(false);
+    };
+    Ok(holds_row_of_forty(&table, 0, b'a') && holds_row_of_forty(&table, 1, b'b'))
+}
+
 #[test]
 fn tables_of_files(rt: HostRuntime) -> Result<(), Fail> {
     let alloc = rt.alloc();
@@ -558,5 +621,6 @@ fn tables_of_files(rt: HostRuntime) -> Result<(), Fail> {
     assert!(rt; short_files_and_too_many_rows(alloc)? && a_name_comes_once(alloc)?);
     assert!(rt; marks_stay(alloc)? && a_table_of_one_row(alloc)?);
     assert!(rt; stamps_have_years_from_1900_to_2155() && pack_keeps_the_unmarked_rows(alloc)?);
+    assert!(rt; each_of_forty_fields_is_read(alloc)?);
     Ok(())
 }

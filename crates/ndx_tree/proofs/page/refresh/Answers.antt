@@ -1,19 +1,26 @@
-use Rattle.std.proofs.Common.{◌≡◌, ◌+◌, ◌*◌, Some, subst, sym, arith, length, ◌≤◌, List}
+use Rattle.std.proofs.Common.{◌≡◌, ◌+◌, ◌-◌, ◌*◌, ◌∙◌, ap, subst, sym, arith, length, ◌≤◌, List, [], get_or}
 use Rattle.std.proofs.lemmas.List.{set_past}
-use Rattle.key_lists.specs.Pairs.{Pair}
-use Rattle.ndx_tree.specs.Pages.{PageView, IsCut}
-use Rattle.key_lists.specs.Rising.{last_of}
+use Rattle.key_lists.specs.Pairs.{Pair, is_before}
+use Rattle.ndx_tree.specs.Pages.{PageView, IsCut, view_of}
 use Rattle.key_rows.specs.Flat.{HaveKeys}
 use Rattle.ndx_tree.proofs.Keyed.{last_keyed, child_keyed}
+use Rattle.ndx_tree.proofs.Remove.{last_index}
 use Rattle.ndx_tree.proofs.page.refresh.Goals as goal
 
-pub returns-else-at-len-clause-cut : goal.returns-else-at-len-clause-cut
-returns-else-at-len-clause-cut c =
-    let past : length c.args.entries.now.items ≤ c.args.at = omega arith in
-    let last = c.last_pair-last.result in
-    subst (λ (m : List Pair). IsCut m c.args.children.now) (set_past c.args.entries.now.items c.args.at last past)
-    (c.requires.cut c.index-children-at.result last
-    (subst (λ (v : PageView). last_of v.pairs ≡ Some last) c.index-children-at.is c.last_pair-last.ensures.found))
+pub returns-then-at-len-clause-cut : goal.returns-then-at-len-clause-cut
+returns-then-at-len-clause-cut c =
+    let page : PageView = view_of 0 [] [] in
+    let pairs = (get_or c.args.children.now c.args.at page).pairs in
+    let last : Pair = get_or pairs (length pairs - 1) ([], 0) in
+    subst (λ (m : List Pair). IsCut m c.args.children.now)
+    (set_past c.args.entries.now.items c.args.at last (omega arith))
+    (c.requires.cut page last (last_index pairs ([], 0) (c.requires.some page)))
+
+pub returns-then-is_after-clause-cut : goal.returns-then-is_after-clause-cut
+returns-then-is_after-clause-cut c =
+    c.requires.kept c.get.result (omega arith)
+    (ap (is_before (c.args.key.now, c.args.number)) (sym (c.get.ensures c.get.result)) ∙ sym c.is_after.ensures
+    ∙ c.if-is_after.true)
 
 pub set-requires-clause-alike : goal.set-requires-clause-alike
 set-requires-clause-alike c =

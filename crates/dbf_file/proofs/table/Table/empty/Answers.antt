@@ -8,6 +8,9 @@ use Rattle.dbf_file.proofs.table.Table.empty.Goals as goal
 pub size_of-requires : goal.size_of-requires
 size_of-requires c = (good_fields c.args.fields.now c.requires).most
 
+pub of_parts-requires : goal.of_parts-requires
+of_parts-requires c = (good_fields c.args.fields.now c.requires).most
+
 pub invariant_of-result : goal.invariant_of-result
 invariant_of-result c =
     let same : c.in_ok-of_parts.field-0 ≡ structure_of c.args.fields.now = same_structure c.in_ok-of_parts.field-0 _ _

@@ -159,47 +159,44 @@ refresh-requires-clause-some t c =
     let placed = c.place_of_pair-at.ensures.value in
     let some : 0 < length c.self.inside.children.items =
     omega (arith, eqb-false _ 0 (sym c.is_empty.ensures ∙ c.if-is_empty.false)) in
-    let child = losing_child c.self.inside.most c.self.inside.entries.items c.self.inside.children.items
-    (c.args.key.now, c.args.number) c.place_of_pair-at.result c.index_mut.result.now c.self.invariant.0 some placed
-    c.index_mut.ensures.value in
-    let height : c.args.self.now.height ≡ c.index_mut.result.now.height + 1 =
-    sym (ap (λ (v : PageView). v.height) c.self.view_is) ∙ child.2 in
-    let count : c.args.self.now.count ≡ length c.self.inside.entries.items =
-    sym (ap (λ (v : PageView). v.count) c.self.view_is) in
-    let two : 0 < length c.self.inside.entries.items =
-    subst (λ k. 0 < k) count (c.requires.inner (omega (arith, child.3.high))) in
     let r : Removes c.index_mut.result.now (c.args.key.now, c.args.number) c.remove-2.new.self true = subst
     (λ b. Removes c.index_mut.result.now (c.args.key.now, c.args.number) c.remove-2.new.self b)
     c.if-not-remove.false c.remove-2.ensures in
     let lost : IsLosing c.args.self.now c.self.inside.most c.self.inside.entries.items c.self.inside.children.items
     (c.args.key.now, c.args.number) c.place_of_pair-at.result c.remove-2.new.self = child_loses c.args.self.now
     c.self.inside.most c.self.inside.entries.items c.self.inside.children.items (c.args.key.now, c.args.number)
-    c.place_of_pair-at.result c.index_mut.result.now c.remove-2.new.self c.self.view_is c.self.invariant.0 some two
-    c.self.invariant.1 placed c.index_mut.ensures.value r in
+    c.place_of_pair-at.result c.index_mut.result.now c.remove-2.new.self c.self.view_is c.self.invariant.0 some
+    c.requires.inner c.self.invariant.1 placed c.index_mut.ensures.value r in
     rw c.deref.ensures.value lost.some
+
+pub refresh-requires-clause-kept : goal.refresh-requires-clause-kept
+refresh-requires-clause-kept t c =
+    let placed = c.place_of_pair-at.ensures.value in
+    let some : 0 < length c.self.inside.children.items =
+    omega (arith, eqb-false _ 0 (sym c.is_empty.ensures ∙ c.if-is_empty.false)) in
+    let r : Removes c.index_mut.result.now (c.args.key.now, c.args.number) c.remove-2.new.self true = subst
+    (λ b. Removes c.index_mut.result.now (c.args.key.now, c.args.number) c.remove-2.new.self b)
+    c.if-not-remove.false c.remove-2.ensures in
+    let lost : IsLosing c.args.self.now c.self.inside.most c.self.inside.entries.items c.self.inside.children.items
+    (c.args.key.now, c.args.number) c.place_of_pair-at.result c.remove-2.new.self = child_loses c.args.self.now
+    c.self.inside.most c.self.inside.entries.items c.self.inside.children.items (c.args.key.now, c.args.number)
+    c.place_of_pair-at.result c.index_mut.result.now c.remove-2.new.self c.self.view_is c.self.invariant.0 some
+    c.requires.inner c.self.invariant.1 placed c.index_mut.ensures.value r in
+    rw c.deref.ensures.value lost.kept
 
 pub refresh-requires-clause-cut : goal.refresh-requires-clause-cut
 refresh-requires-clause-cut t c =
     let placed = c.place_of_pair-at.ensures.value in
     let some : 0 < length c.self.inside.children.items =
     omega (arith, eqb-false _ 0 (sym c.is_empty.ensures ∙ c.if-is_empty.false)) in
-    let child = losing_child c.self.inside.most c.self.inside.entries.items c.self.inside.children.items
-    (c.args.key.now, c.args.number) c.place_of_pair-at.result c.index_mut.result.now c.self.invariant.0 some placed
-    c.index_mut.ensures.value in
-    let height : c.args.self.now.height ≡ c.index_mut.result.now.height + 1 =
-    sym (ap (λ (v : PageView). v.height) c.self.view_is) ∙ child.2 in
-    let count : c.args.self.now.count ≡ length c.self.inside.entries.items =
-    sym (ap (λ (v : PageView). v.count) c.self.view_is) in
-    let two : 0 < length c.self.inside.entries.items =
-    subst (λ k. 0 < k) count (c.requires.inner (omega (arith, child.3.high))) in
     let r : Removes c.index_mut.result.now (c.args.key.now, c.args.number) c.remove-2.new.self true = subst
     (λ b. Removes c.index_mut.result.now (c.args.key.now, c.args.number) c.remove-2.new.self b)
     c.if-not-remove.false c.remove-2.ensures in
     let lost : IsLosing c.args.self.now c.self.inside.most c.self.inside.entries.items c.self.inside.children.items
     (c.args.key.now, c.args.number) c.place_of_pair-at.result c.remove-2.new.self = child_loses c.args.self.now
     c.self.inside.most c.self.inside.entries.items c.self.inside.children.items (c.args.key.now, c.args.number)
-    c.place_of_pair-at.result c.index_mut.result.now c.remove-2.new.self c.self.view_is c.self.invariant.0 some two
-    c.self.invariant.1 placed c.index_mut.ensures.value r in
+    c.place_of_pair-at.result c.index_mut.result.now c.remove-2.new.self c.self.view_is c.self.invariant.0 some
+    c.requires.inner c.self.invariant.1 placed c.index_mut.ensures.value r in
     rw c.deref.ensures.value lost.cut
 
 pub mend-requires-clause-mending : goal.mend-requires-clause-mending
@@ -207,23 +204,14 @@ mend-requires-clause-mending t c =
     let placed = c.place_of_pair-at.ensures.value in
     let some : 0 < length c.self.inside.children.items =
     omega (arith, eqb-false _ 0 (sym c.is_empty.ensures ∙ c.if-is_empty.false)) in
-    let child = losing_child c.self.inside.most c.self.inside.entries.items c.self.inside.children.items
-    (c.args.key.now, c.args.number) c.place_of_pair-at.result c.index_mut.result.now c.self.invariant.0 some placed
-    c.index_mut.ensures.value in
-    let height : c.args.self.now.height ≡ c.index_mut.result.now.height + 1 =
-    sym (ap (λ (v : PageView). v.height) c.self.view_is) ∙ child.2 in
-    let count : c.args.self.now.count ≡ length c.self.inside.entries.items =
-    sym (ap (λ (v : PageView). v.count) c.self.view_is) in
-    let two : 0 < length c.self.inside.entries.items =
-    subst (λ k. 0 < k) count (c.requires.inner (omega (arith, child.3.high))) in
     let r : Removes c.index_mut.result.now (c.args.key.now, c.args.number) c.remove-2.new.self true = subst
     (λ b. Removes c.index_mut.result.now (c.args.key.now, c.args.number) c.remove-2.new.self b)
     c.if-not-remove.false c.remove-2.ensures in
     let lost : IsLosing c.args.self.now c.self.inside.most c.self.inside.entries.items c.self.inside.children.items
     (c.args.key.now, c.args.number) c.place_of_pair-at.result c.remove-2.new.self = child_loses c.args.self.now
     c.self.inside.most c.self.inside.entries.items c.self.inside.children.items (c.args.key.now, c.args.number)
-    c.place_of_pair-at.result c.index_mut.result.now c.remove-2.new.self c.self.view_is c.self.invariant.0 some two
-    c.self.invariant.1 placed c.index_mut.ensures.value r in
+    c.place_of_pair-at.result c.index_mut.result.now c.remove-2.new.self c.self.view_is c.self.invariant.0 some
+    c.requires.inner c.self.invariant.1 placed c.index_mut.ensures.value r in
     let cut : IsCut c.refresh.new.entries.items
     (set c.self.inside.children.items c.place_of_pair-at.result c.remove-2.new.self) =
     subst (IsCut c.refresh.new.entries.items) c.deref.ensures.value c.refresh.ensures.cut in
@@ -236,23 +224,14 @@ returns t c =
     let placed = c.place_of_pair-at.ensures.value in
     let some : 0 < length c.self.inside.children.items =
     omega (arith, eqb-false _ 0 (sym c.is_empty.ensures ∙ c.if-is_empty.false)) in
-    let child = losing_child c.self.inside.most c.self.inside.entries.items c.self.inside.children.items
-    (c.args.key.now, c.args.number) c.place_of_pair-at.result c.index_mut.result.now c.self.invariant.0 some placed
-    c.index_mut.ensures.value in
-    let height : c.args.self.now.height ≡ c.index_mut.result.now.height + 1 =
-    sym (ap (λ (v : PageView). v.height) c.self.view_is) ∙ child.2 in
-    let count : c.args.self.now.count ≡ length c.self.inside.entries.items =
-    sym (ap (λ (v : PageView). v.count) c.self.view_is) in
-    let two : 0 < length c.self.inside.entries.items =
-    subst (λ k. 0 < k) count (c.requires.inner (omega (arith, child.3.high))) in
     let r : Removes c.index_mut.result.now (c.args.key.now, c.args.number) c.remove-2.new.self true = subst
     (λ b. Removes c.index_mut.result.now (c.args.key.now, c.args.number) c.remove-2.new.self b)
     c.if-not-remove.false c.remove-2.ensures in
     let lost : IsLosing c.args.self.now c.self.inside.most c.self.inside.entries.items c.self.inside.children.items
     (c.args.key.now, c.args.number) c.place_of_pair-at.result c.remove-2.new.self = child_loses c.args.self.now
     c.self.inside.most c.self.inside.entries.items c.self.inside.children.items (c.args.key.now, c.args.number)
-    c.place_of_pair-at.result c.index_mut.result.now c.remove-2.new.self c.self.view_is c.self.invariant.0 some two
-    c.self.invariant.1 placed c.index_mut.ensures.value r in
+    c.place_of_pair-at.result c.index_mut.result.now c.remove-2.new.self c.self.view_is c.self.invariant.0 some
+    c.requires.inner c.self.invariant.1 placed c.index_mut.ensures.value r in
     let cut : IsCut c.refresh.new.entries.items
     (set c.self.inside.children.items c.place_of_pair-at.result c.remove-2.new.self) =
     subst (IsCut c.refresh.new.entries.items) c.deref.ensures.value c.refresh.ensures.cut in
@@ -272,20 +251,9 @@ refresh-requires-clause-alike t c =
     let child = losing_child c.self.inside.most c.self.inside.entries.items c.self.inside.children.items
     (c.args.key.now, c.args.number) c.place_of_pair-at.result c.index_mut.result.now c.self.invariant.0 some placed
     c.index_mut.ensures.value in
-    let height : c.args.self.now.height ≡ c.index_mut.result.now.height + 1 =
-    sym (ap (λ (v : PageView). v.height) c.self.view_is) ∙ child.2 in
-    let count : c.args.self.now.count ≡ length c.self.inside.entries.items =
-    sym (ap (λ (v : PageView). v.count) c.self.view_is) in
-    let two : 0 < length c.self.inside.entries.items =
-    subst (λ k. 0 < k) count (c.requires.inner (omega (arith, child.3.high))) in
     let r : Removes c.index_mut.result.now (c.args.key.now, c.args.number) c.remove-2.new.self true = subst
     (λ b. Removes c.index_mut.result.now (c.args.key.now, c.args.number) c.remove-2.new.self b)
     c.if-not-remove.false c.remove-2.ensures in
-    let lost : IsLosing c.args.self.now c.self.inside.most c.self.inside.entries.items c.self.inside.children.items
-    (c.args.key.now, c.args.number) c.place_of_pair-at.result c.remove-2.new.self = child_loses c.args.self.now
-    c.self.inside.most c.self.inside.entries.items c.self.inside.children.items (c.args.key.now, c.args.number)
-    c.place_of_pair-at.result c.index_mut.result.now c.remove-2.new.self c.self.view_is c.self.invariant.0 some two
-    c.self.invariant.1 placed c.index_mut.ensures.value r in
     let k = c.requires.keyed.key_length in
     let m = c.self.inside.most in
     let es = c.self.inside.entries.items in
@@ -313,20 +281,9 @@ mend-requires-clause-keyed t c =
     let child = losing_child c.self.inside.most c.self.inside.entries.items c.self.inside.children.items
     (c.args.key.now, c.args.number) c.place_of_pair-at.result c.index_mut.result.now c.self.invariant.0 some placed
     c.index_mut.ensures.value in
-    let height : c.args.self.now.height ≡ c.index_mut.result.now.height + 1 =
-    sym (ap (λ (v : PageView). v.height) c.self.view_is) ∙ child.2 in
-    let count : c.args.self.now.count ≡ length c.self.inside.entries.items =
-    sym (ap (λ (v : PageView). v.count) c.self.view_is) in
-    let two : 0 < length c.self.inside.entries.items =
-    subst (λ k. 0 < k) count (c.requires.inner (omega (arith, child.3.high))) in
     let r : Removes c.index_mut.result.now (c.args.key.now, c.args.number) c.remove-2.new.self true = subst
     (λ b. Removes c.index_mut.result.now (c.args.key.now, c.args.number) c.remove-2.new.self b)
     c.if-not-remove.false c.remove-2.ensures in
-    let lost : IsLosing c.args.self.now c.self.inside.most c.self.inside.entries.items c.self.inside.children.items
-    (c.args.key.now, c.args.number) c.place_of_pair-at.result c.remove-2.new.self = child_loses c.args.self.now
-    c.self.inside.most c.self.inside.entries.items c.self.inside.children.items (c.args.key.now, c.args.number)
-    c.place_of_pair-at.result c.index_mut.result.now c.remove-2.new.self c.self.view_is c.self.invariant.0 some two
-    c.self.invariant.1 placed c.index_mut.ensures.value r in
     let k = c.requires.keyed.key_length in
     let m = c.self.inside.most in
     let es = c.self.inside.entries.items in
