@@ -67,6 +67,7 @@ pub record IsSave (rows : List Row) (save : SaveWords) : Type 0 where
   pub backup : lent save.backup ≡ word_given (codes "backup") rows
   pub new_owner : save.new_owner ≡ has_flag (codes "new-owner") rows
   pub no_lock : save.no_lock ≡ has_flag (codes "no-lock") rows
+  pub keep_unchanged : save.keep_unchanged ≡ has_flag (codes "keep-unchanged") rows
 
 -- a run saves, unless the words ask for a rehearsal
 abbrev pub AreOutcomes : List Row → Outcomes → Type 0

@@ -50,7 +50,7 @@ run_words = file_word ∷ budget_word ∷ limit_word ∷ valued_word (codes "tod
 -- the words that say what becomes of a run's tables
 abbrev pub save_words : List Rule
 save_words = flag_word (codes "rehearse") ∷ flag_word (codes "only-finished") ∷ valued_word (codes "backup")
-    ∷ flag_word (codes "new-owner") ∷ flag_word (codes "no-lock") ∷ []
+    ∷ flag_word (codes "new-owner") ∷ flag_word (codes "no-lock") ∷ flag_word (codes "keep-unchanged") ∷ []
 
 -- the words of conversations alone
 abbrev pub talk_words : List Rule

@@ -42,7 +42,8 @@ NoWindow (Some word) told = (told ≡ Window) × ((size : WindowWords) → ¬ Is
 abbrev pub says_how : List Row → Bool
 says_how rows =
     has_flag (codes "only-finished") rows
-    || (is_some (word_given (codes "backup") rows) || has_flag (codes "new-owner") rows)
+    || (is_some (word_given (codes "backup") rows)
+    || (has_flag (codes "new-owner") rows || has_flag (codes "keep-unchanged") rows))
 
 -- a rehearsal is told how to save
 abbrev pub SavesToo : List Row → WordsFault → Type 0
@@ -56,7 +57,7 @@ names_terms rows = list_any (λ id. is_some (word_given id rows))
 -- they say what becomes of its tables
 abbrev pub says_outcome : List Row → Bool
 says_outcome rows = list_any (λ id. has_flag id rows)
-    (codes "rehearse" ∷ codes "only-finished" ∷ codes "new-owner" ∷ codes "no-lock" ∷ [])
+    (codes "rehearse" ∷ codes "only-finished" ∷ codes "new-owner" ∷ codes "no-lock" ∷ codes "keep-unchanged" ∷ [])
 
 abbrev pub asks_anew : List Row → Bool
 asks_anew rows = names_terms rows || says_outcome rows

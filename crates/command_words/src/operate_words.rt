@@ -16,9 +16,9 @@ ghost use Rattle.command_words.specs.declared.operate_words.WindowWords.{WindowW
 ghost use Rattle.command_words.specs.Windows.{IsNumber, IsSize};
 
 use crate::words::{
-    BACKUP, FILE, NEW_OWNER, NO_LOCK, ONLY_FINISHED, Outcomes, REHEARSE, RunHelp, WordsFault, flag,
-    is_set, limit_of, number_if, page, page_of, run_outcomes, runner, saver, valued, with_word,
-    word_if, word_of,
+    BACKUP, FILE, KEEP_UNCHANGED, NEW_OWNER, NO_LOCK, ONLY_FINISHED, Outcomes, REHEARSE, RunHelp,
+    WordsFault, flag, is_set, limit_of, number_if, page, page_of, run_outcomes, runner, saver,
+    valued, with_word, word_if, word_of,
 };
 use clap::{Arg, ArgMatches, Command};
 use code_pages::CodePage;
@@ -211,6 +211,7 @@ fn says_outcome(matches: &ArgMatches<'_>) -> bool
         || is_set(matches, ONLY_FINISHED)
         || is_set(matches, NEW_OWNER)
         || is_set(matches, NO_LOCK)
+        || is_set(matches, KEEP_UNCHANGED)
 }
 
 /// Whether words say what a conversation that goes on has been asked for already.

@@ -70,6 +70,8 @@ pub struct SaveWords<'a> {
     pub new_owner: bool,
     /// Whether they are saved where the file system knows no locks.
     pub no_lock: bool,
+    /// Whether files stay as they are whose records the run didn't change.
+    pub keep_unchanged: bool,
 }
 
 /// What becomes of the tables that a run leaves.
@@ -170,6 +172,8 @@ pub(crate) const BACKUP: &str = "backup";
 pub(crate) const NEW_OWNER: &str = "new-owner";
 
 pub(crate) const NO_LOCK: &str = "no-lock";
+
+pub(crate) const KEEP_UNCHANGED: &str = "keep-unchanged";
 
 /// A command with a word more.
 pub(crate) fn with_word<'a>(command: Command<'a>, word: Arg<'a>) -> Result<Command<'a>, AllocError>
@@ -325,11 +329,17 @@ pub(crate) fn saver<'a>(alloc: Global, command: Command<'a>) -> Result<Command<'
         "Lets new files be yours where the old owner or group can't be kept",
     );
     let no_lock = flag(alloc, NO_LOCK, "Saves where the file system knows no locks");
+    let keep_unchanged = flag(
+        alloc,
+        KEEP_UNCHANGED,
+        "Leaves files as they are whose records the program did not change",
+    );
     let command = with_word(command, rehearse)?;
     let command = with_word(command, only_finished)?;
     let command = with_word(command, backup)?;
     let command = with_word(command, new_owner)?;
-    with_word(command, no_lock)
+    let command = with_word(command, no_lock)?;
+    with_word(command, keep_unchanged)
 }
 
 fn forgetter<'a>(alloc: Global) -> Result<Command<'a>, AllocError>
@@ -623,11 +633,12 @@ pub(crate) fn run_outcomes<'a>(matches: &ArgMatches<'a>) -> Result<Outcomes<'a>,
         backup: word_if(matches, BACKUP),
         new_owner: is_set(matches, NEW_OWNER),
         no_lock: is_set(matches, NO_LOCK),
+        keep_unchanged: is_set(matches, KEEP_UNCHANGED),
     };
     if !is_set(matches, REHEARSE) {
         return Ok(Outcomes::Saved(save));
     }
-    if save.only_finished || save.backup.is_some() || save.new_owner {
+    if save.only_finished || save.backup.is_some() || save.new_owner || save.keep_unchanged {
         return Err(WordsFault::Rehearsed);
     }
     Ok(Outcomes::Told)

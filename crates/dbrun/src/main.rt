@@ -6,49 +6,119 @@
 #![tactic(auto)]
 
 mod areas;
+mod escaped;
 mod faults;
 mod forgetting;
 mod operate;
 mod progress;
+mod rehearsing;
 mod screens;
 mod shown;
 
 use crate::areas::tell_areas;
+use crate::escaped::Escaped;
+use crate::escaped::escaped_name;
+use crate::escaped::has_obeyed;
+use crate::escaped::tell;
 use crate::faults::faults;
 use crate::forgetting::forget_save;
-use crate::operate::{begun_name, done_name, operate};
-use crate::progress::run_told;
-use crate::screens::{may_show, rehearse_shown, run_shown};
-use crate::shown::{
-    Audience, FaultyLine, NameTold, OutTold, PrintableLine, Progress, UnwrittenTold, absent_file,
-    faulty_line, hint_of, letters_alone, line_at, of_end, of_file, printable, why_hindered,
-};
+use crate::operate::begun_name;
+use crate::operate::done_name;
+use crate::operate::operate;
+use crate::rehearsing::declared_files;
+use crate::rehearsing::rehearse;
+use crate::rehearsing::run_tested;
+use crate::screens::may_show;
+use crate::screens::run_shown;
+use crate::shown::Audience;
+use crate::shown::FaultyLine;
+use crate::shown::OutTold;
+use crate::shown::PrintableLine;
+use crate::shown::Progress;
+use crate::shown::RecordedName;
+use crate::shown::UnwrittenTold;
+use crate::shown::absent_file;
+use crate::shown::faulty_line;
+use crate::shown::hint_of;
+use crate::shown::letters_alone;
+use crate::shown::line_at;
+use crate::shown::of_end;
+use crate::shown::of_file;
+use crate::shown::printable;
+use crate::shown::why_hindered;
+use clap::ArgMatches;
+use clap::Command;
 use clap::error::ErrorKind;
-use clap::{ArgMatches, Command};
-use code_pages::{CodePage, in_utf8};
-use command_words::{
-    Listing, Outcomes, RunWords, SaveWords, Words, WordsFault, command, sources_of, words_of,
-};
-use compile_commands::{CompileFilesRefusal, CompileTold, CompileWords, compile_files};
-use file_access::{FILE_LIMIT, Files, ReadFault, read_in_turns, read_within};
-use file_commands::{
-    Refusal, Status, list_code, list_index, list_table, of_refusal, read_code, verify_file,
-};
-use folder_files::{
-    FinishedSave, Folder, Held, Hindrance, Nobody, SaveTerms, SavingFolder, UnfinishedSave,
-    Unreplaced, Unsaved, behind_links, finish, hindered_plan, is_empty_folder, is_same_file,
-    name_in_folder, note_stands, paper_name, save_stands, stands, take_folder,
-};
-use folder_shapes::{FolderDeclared, LineTold, declare};
-use run_commands::{Ended, Job, Rehearsal, Report, RunRefusal};
-use save_rules::{Overwritten, overwritten_by};
+use code_pages::CodePage;
+use code_pages::in_utf8;
+use command_words::Listing;
+use command_words::Outcomes;
+use command_words::RunWords;
+use command_words::SaveWords;
+use command_words::Words;
+use command_words::WordsFault;
+use command_words::command;
+use command_words::sources_of;
+use command_words::words_of;
+use compile_commands::CompileFilesRefusal;
+use compile_commands::CompileTold;
+use compile_commands::CompileWords;
+use compile_commands::compile_files;
+use file_access::FILE_LIMIT;
+use file_access::Files;
+use file_access::ReadFault;
+use file_access::read_in_turns;
+use file_access::read_within;
+use file_commands::Refusal;
+use file_commands::Status;
+use file_commands::list_code;
+use file_commands::list_index;
+use file_commands::list_table;
+use file_commands::of_refusal;
+use file_commands::read_code;
+use file_commands::verify_file;
+use folder_files::FinishedSave;
+use folder_files::Folder;
+use folder_files::Held;
+use folder_files::Hindrance;
+use folder_files::LOCK_FILE;
+use folder_files::Nobody;
+use folder_files::SaveTerms;
+use folder_files::SavingFolder;
+use folder_files::UnfinishedSave;
+use folder_files::Unreplaced;
+use folder_files::Unsaved;
+use folder_files::behind_links;
+use folder_files::finish;
+use folder_files::hindered_plan;
+use folder_files::is_same_file;
+use folder_files::let_go;
+use folder_files::may_take_copies;
+use folder_files::name_in_folder;
+use folder_files::note_stands;
+use folder_files::paper_name;
+use folder_files::save_stands;
+use folder_files::stands;
+use folder_files::take_folder;
+use folder_shapes::FolderDeclared;
+use folder_shapes::LineTold;
+use folder_shapes::declare;
+use run_commands::Ended;
+use run_commands::Job;
+use run_commands::Report;
+use run_commands::RunRefusal;
+use save_rules::Overwritten;
+use save_rules::overwritten_by;
 use shape_files::ShapeRefusal;
-use std::alloc::{AllocError, Global};
+use std::alloc::AllocError;
+use std::alloc::Global;
+use std::env;
 use std::fs::File;
+use std::io;
 use std::io::IsTerminal;
 use std::process::ExitCode;
 use std::rt::Runtime;
-use std::{env, io, str};
+use std::str;
 use table_csv::list_csv;
 
 /// The most bytes that an operator may type for a run: 1 MiB.
@@ -61,13 +131,13 @@ const INPUT_TURNS: usize = 2_097_152;
 const NAMES_LIMIT: usize = 67_108_864;
 
 /// Tells on standard error why a command isn't carried out.
-pub fn refuse(rt: &impl Runtime, refusal: Refusal<'_>) -> Status {
-    let _ = eprintln!(rt; "{refusal}");
+pub fn refuse(rt: &impl Runtime, audience: Audience, refusal: Refusal<'_>) -> Status {
+    tell(rt, audience, &refusal);
     of_refusal(&refusal)
 }
 
 /// The folder in which the program runs; a person is told of long files.
-pub fn folder<'a, R: Runtime<A = Global>>(
+pub fn folder<'a, R: Runtime<A = Global, File = File>>(
     rt: &'a R,
     audience: Audience,
 ) -> Folder<'a, R, Progress<'a, R>> {
@@ -76,7 +146,10 @@ pub fn folder<'a, R: Runtime<A = Global>>(
 }
 
 /// All that the operator typed, or how the program exits where that can't be had.
-fn typed<R: Runtime<A = Global>>(rt: &R) -> Result<Vec<u8>, Status> {
+fn typed<R: Runtime<A = Global, File = File>>(
+    rt: &R,
+    audience: Audience,
+) -> Result<Vec<u8>, Status> {
     let mut reader = rt.reader();
     match read_in_turns(rt.alloc(), &mut reader, INPUT_LIMIT, INPUT_TURNS) {
         Ok(bytes) => Ok(bytes),
@@ -84,8 +157,8 @@ fn typed<R: Runtime<A = Global>>(rt: &R) -> Result<Vec<u8>, Status> {
             let _ = eprintln!(rt; "refused - TooLong");
             Err(Status::Refused)
         }
-        Err(ReadFault::Memory) => Err(refuse(rt, Refusal::Memory)),
-        Err(_) => Err(refuse(rt, Refusal::Disk { name: "-" })),
+        Err(ReadFault::Memory) => Err(no_memory(rt)),
+        Err(_) => Err(refuse(rt, audience, Refusal::Disk { name: "-" })),
     }
 }
 
@@ -104,7 +177,7 @@ fn of_compiling(refusal: &CompileFilesRefusal) -> Status {
 }
 
 /// Shows a faulty line on standard error, and below it what to do about it.
-fn show_line<R: Runtime<A = Global>, F: Files>(
+fn show_line<R: Runtime<A = Global, File = File>, F: Files>(
     rt: &R,
     files: &mut F,
     refusal: &CompileFilesRefusal,
@@ -121,7 +194,7 @@ fn show_line<R: Runtime<A = Global>, F: Files>(
 }
 
 /// Shows a faulty line and what to do about it, where its file can still be read.
-fn show_faulty<R: Runtime<A = Global>>(
+fn show_faulty<R: Runtime<A = Global, File = File>>(
     rt: &R,
     place: FaultyLine<'_>,
     refusal: &CompileFilesRefusal,
@@ -136,14 +209,17 @@ fn show_faulty<R: Runtime<A = Global>>(
 }
 
 /// Whether a conversation has been recorded beside a file of this name: the text of its beginning or of its end stands.
-pub fn is_recorded<R: Runtime<A = Global>>(rt: &R, name: &str) -> Result<bool, AllocError> {
+pub fn is_recorded<R: Runtime<A = Global, File = File>>(
+    rt: &R,
+    name: &str,
+) -> Result<bool, AllocError> {
     let begun = begun_name(rt.alloc(), name)?;
     let done = done_name(rt.alloc(), name)?;
     Ok(stands(rt, begun.as_str()) || stands(rt, done.as_str()))
 }
 
 /// What a code file would overwrite by its name, and by the name that it leads to.
-fn overwritten_names<R: Runtime<A = Global>>(
+fn overwritten_names<R: Runtime<A = Global, File = File>>(
     rt: &R,
     decl: &str,
     out: &str,
@@ -162,7 +238,7 @@ fn overwritten_names<R: Runtime<A = Global>>(
 }
 
 /// What a file is that stands under the name of a table or an index in the folder too, if it does.
-fn kept_as<R: Runtime<A = Global>>(rt: &R, out: &str) -> Option<Overwritten> {
+fn kept_as<R: Runtime<A = Global, File = File>>(rt: &R, out: &str) -> Option<Overwritten> {
     if !stands(rt, out) {
         return None;
     }
@@ -180,7 +256,7 @@ fn kept_as<R: Runtime<A = Global>>(rt: &R, out: &str) -> Option<Overwritten> {
 }
 
 /// What a code file would overwrite by the files themselves.
-fn overwritten_files<R: Runtime<A = Global>>(
+fn overwritten_files<R: Runtime<A = Global, File = File>>(
     rt: &R,
     decl: &str,
     out: &str,
@@ -218,7 +294,7 @@ fn compile<'a, R: Runtime<A = Global, File = File>>(
     if let Some(what) = overwritten {
         return Err(WordsFault::Out(what));
     }
-    settle(rt, audience);
+    let _ = settle(rt, audience);
     let mut folder = folder(rt, audience);
     let refusal = match compile_files(rt.alloc(), &mut folder, decl, out, names) {
         Ok(()) => return Ok(Status::Done),
@@ -229,7 +305,7 @@ fn compile<'a, R: Runtime<A = Global, File = File>>(
 }
 
 /// Whether a file stands under a name in capitals, or in small letters.
-fn stands_otherwise<R: Runtime<A = Global>>(rt: &R, name: &str) -> bool {
+fn stands_otherwise<R: Runtime<A = Global, File = File>>(rt: &R, name: &str) -> bool {
     let Ok(mut name) = String::from_str(rt.alloc(), name) else {
         return false;
     };
@@ -242,7 +318,7 @@ fn stands_otherwise<R: Runtime<A = Global>>(rt: &R, name: &str) -> bool {
 }
 
 /// Shows a person what to do about files that aren't compiled.
-fn show_uncompiled<R: Runtime<A = Global>>(
+fn show_uncompiled<R: Runtime<A = Global, File = File>>(
     rt: &R,
     refusal: &CompileFilesRefusal,
     words: CompileWords<'_>,
@@ -265,15 +341,14 @@ fn show_uncompiled<R: Runtime<A = Global>>(
 }
 
 /// Tells on standard error why files aren't compiled; a person is shown what to do about it too.
-pub fn tell_uncompiled<R: Runtime<A = Global>>(
+pub fn tell_uncompiled<R: Runtime<A = Global, File = File>>(
     rt: &R,
     audience: Audience,
     refusal: &CompileFilesRefusal,
     words: CompileWords<'_>,
     unreplaced: Option<Unreplaced>,
 ) -> Status {
-    let told = CompileTold { refusal, words };
-    let _ = eprintln!(rt; "{told}");
+    tell(rt, audience, &CompileTold { refusal, words });
     if audience.person {
         show_uncompiled(rt, refusal, words, unreplaced);
     }
@@ -281,7 +356,11 @@ pub fn tell_uncompiled<R: Runtime<A = Global>>(
 }
 
 /// Prints bytes on standard output. A terminal gets a question mark in place of each byte that isn't printed.
-pub fn print_bytes<R: Runtime<A = Global>>(rt: &R, audience: Audience, bytes: &[u8]) -> Status {
+pub fn print_bytes<R: Runtime<A = Global, File = File>>(
+    rt: &R,
+    audience: Audience,
+    bytes: &[u8],
+) -> Status {
     if !audience.rows {
         return status_of(rt, rt.write_all(bytes));
     }
@@ -296,7 +375,9 @@ fn tell_unprinted(rt: &impl Runtime, error: &io::Error) -> Status {
     if error.kind() == io::ErrorKind::BrokenPipe {
         return Status::Disk;
     }
-    refuse(rt, Refusal::Disk { name: "-" })
+    let refusal = Refusal::Disk { name: "-" };
+    let _ = eprintln!(rt; "{refusal}");
+    of_refusal(&refusal)
 }
 
 /// How the program exits behind an output on standard output.
@@ -316,32 +397,41 @@ pub fn first_failed(printed: Status, told: Status) -> Status {
 }
 
 /// Tells how a run ended, or why there was none.
-fn tell_end(rt: &impl Runtime, name: &str, ended: &Result<Ended, RunRefusal>) -> Status {
+fn tell_end(
+    rt: &impl Runtime,
+    audience: Audience,
+    name: &str,
+    ended: &Result<Ended, RunRefusal>,
+) -> Status {
     match ended {
         Ok(ended) => {
             let _ = eprintln!(rt; "{ended}");
             ended.status()
         }
-        Err(refusal) => tell_refusal(rt, name, refusal),
+        Err(refusal) => tell_refusal(rt, audience, name, refusal),
     }
 }
 
 /// Tells on standard error why a run was refused.
-pub fn tell_refusal(rt: &impl Runtime, name: &str, refusal: &RunRefusal) -> Status {
-    let told = refusal.told(name);
-    let _ = eprintln!(rt; "{told}");
+pub fn tell_refusal(
+    rt: &impl Runtime,
+    audience: Audience,
+    name: &str,
+    refusal: &RunRefusal,
+) -> Status {
+    tell(rt, audience, &refusal.told(name));
     refusal.status()
 }
 
 /// Prints the rows of a run, and then how it ended, also where the rows can't be printed.
-fn report<R: Runtime<A = Global>>(
+pub fn report<R: Runtime<A = Global, File = File>>(
     rt: &R,
     audience: Audience,
     name: &str,
     report: &Report,
 ) -> Status {
     let printed = print_bytes(rt, audience, report.rows.as_slice());
-    first_failed(printed, tell_end(rt, name, &report.result))
+    first_failed(printed, tell_end(rt, audience, name, &report.result))
 }
 
 /// What to do about a save that was cut off, of which maybe a note stands, and that isn't finished, in one sentence
@@ -363,7 +453,7 @@ fn why_unfinished(unfinished: &UnfinishedSave, noted: bool) -> Option<&'static s
 }
 
 /// Tells on standard error why a save that was cut off isn't finished.
-pub fn tell_unfinished<R: Runtime<A = Global>>(
+pub fn tell_unfinished<R: Runtime<A = Global, File = File>>(
     rt: &R,
     audience: Audience,
     unfinished: &UnfinishedSave,
@@ -374,10 +464,13 @@ pub fn tell_unfinished<R: Runtime<A = Global>>(
             Status::Refused,
         ),
         UnfinishedSave::Changed { name } => (
-            eprintln!(rt; "refused {} Changed", NameTold(name)),
+            eprintln!(rt; "refused {} Changed", RecordedName { name, audience }),
             Status::Refused,
         ),
-        UnfinishedSave::Disk { name } => (eprintln!(rt; "disk {}", NameTold(name)), Status::Disk),
+        UnfinishedSave::Disk { name } => (
+            eprintln!(rt; "disk {}", RecordedName { name, audience }),
+            Status::Disk,
+        ),
         UnfinishedSave::PaperDisk => (eprintln!(rt; "disk {}", paper_name()), Status::Disk),
         UnfinishedSave::Memory => (eprintln!(rt; "memory"), Status::Memory),
     };
@@ -391,7 +484,10 @@ pub fn tell_unfinished<R: Runtime<A = Global>>(
 }
 
 /// Finishes a save that was cut off before; a status where the run ends with that.
-pub fn finish_before<R: Runtime<A = Global>>(rt: &R, audience: Audience) -> Option<Status> {
+pub fn finish_before<R: Runtime<A = Global, File = File>>(
+    rt: &R,
+    audience: Audience,
+) -> Option<Status> {
     match finish(rt) {
         Ok(FinishedSave::Before) => None,
         Ok(FinishedSave::Behind) => {
@@ -402,49 +498,65 @@ pub fn finish_before<R: Runtime<A = Global>>(rt: &R, audience: Audience) -> Opti
     }
 }
 
+/// Tells on standard error that a lock file holds the folder.
+pub fn tell_lock_file(rt: &impl Runtime, audience: Audience) -> Status {
+    let status = refuse(rt, audience, Refusal::Disk { name: LOCK_FILE });
+    if audience.person {
+        let _ = eprintln!(rt; "  {}.", why_hindered(Hindrance::LockFile));
+    }
+    status
+}
+
 /// Before tables are only read, a save that had come to its note is finished. Where that can't be, it is told on
-/// standard error, and what stands is read.
-pub fn settle<R: Runtime<A = Global, File = File>>(rt: &R, audience: Audience) {
+/// standard error, and what stands is read. Returns whether that is so and nobody else may be finishing it.
+pub fn settle<R: Runtime<A = Global, File = File>>(rt: &R, audience: Audience) -> bool {
     if !note_stands(rt) {
-        return;
+        return false;
     }
-    let held = take_folder(rt);
-    match held {
-        Held::Alone(_) => {
-            if let Err(unfinished) = finish(rt) {
-                let _ = tell_unfinished(rt, audience, &unfinished);
-            }
+    let held = take_folder(rt, false);
+    let unfinished = match &held {
+        Held::Alone(_) => match finish(rt) {
+            Ok(_) => None,
+            Err(unfinished) => Some(tell_unfinished(rt, audience, &unfinished)),
+        },
+        Held::LockFile => Some(tell_lock_file(rt, audience)),
+        Held::Taken | Held::NoLocks | Held::Closed | Held::NoRoom => {
+            Some(tell_unfinished(rt, audience, &UnfinishedSave::PaperDisk))
         }
-        Held::NoLocks | Held::Closed => {
-            let _ = tell_unfinished(rt, audience, &UnfinishedSave::PaperDisk);
-        }
-        Held::Taken => {}
-    }
+    };
+    let is_others = matches!(held, Held::Taken | Held::LockFile);
+    let_go(rt, held);
+    unfinished.is_some() && !is_others
 }
 
 /// Tells on standard error why the tables of a run aren't saved.
-pub fn tell_unsaved<R: Runtime<A = Global>>(
+pub fn tell_unsaved<R: Runtime<A = Global, File = File>>(
     rt: &R,
     audience: Audience,
     saving: &SavingFolder<'_, R, Progress<'_, R>>,
     unsaved: Unsaved,
     backup: Option<&str>,
 ) -> Status {
-    let (told, status) = match unsaved {
-        Unsaved::Changed { file } => (
-            eprintln!(rt; "refused {} Changed", saving.name_of(file)),
-            Status::Refused,
-        ),
-        Unsaved::Disk { file } | Unsaved::Cut { file } => {
-            (eprintln!(rt; "disk {}", saving.name_of(file)), Status::Disk)
+    let status = match unsaved {
+        Unsaved::Changed { file } => {
+            tell(
+                rt,
+                audience,
+                &format_args!("refused {} Changed", saving.name_of(file)),
+            );
+            Status::Refused
         }
-        Unsaved::Backup => (
-            eprintln!(rt; "disk {}", backup.unwrap_or(".")),
-            Status::Disk,
-        ),
-        Unsaved::Memory => (eprintln!(rt; "memory"), Status::Memory),
+        Unsaved::Disk { file } | Unsaved::Cut { file } => {
+            let name = saving.name_of(file);
+            refuse(rt, audience, Refusal::Disk { name })
+        }
+        Unsaved::Backup => {
+            let name = backup.unwrap_or(".");
+            refuse(rt, audience, Refusal::Disk { name })
+        }
+        Unsaved::Memory => no_memory(rt),
     };
-    if told.is_ok() && audience.person {
+    if audience.person {
         let _ = match unsaved {
             Unsaved::Cut { .. } => eprintln!(rt;
                 "the next command finishes this save; do not repeat the run"
@@ -456,14 +568,14 @@ pub fn tell_unsaved<R: Runtime<A = Global>>(
 }
 
 /// Tells why a run was refused; a person is told too why a file of it couldn't be saved.
-pub fn tell_hindered<R: Runtime<A = Global>>(
+pub fn tell_hindered<R: Runtime<A = Global, File = File>>(
     rt: &R,
     audience: Audience,
     name: &str,
     refusal: &RunRefusal,
     hindrance: Option<Hindrance>,
 ) -> Status {
-    let status = tell_refusal(rt, name, refusal);
+    let status = tell_refusal(rt, audience, name, refusal);
     if audience.person {
         let _ = match hindrance {
             Some(hindrance) => eprintln!(rt; "{}; no file was changed", why_hindered(hindrance)),
@@ -485,9 +597,9 @@ fn run_and_save<R: Runtime<A = Global, File = File>>(
 ) -> Status {
     let terms = SaveTerms {
         closed,
-        saves: true,
         takes_over: save.new_owner,
         backup: save.backup,
+        keep_unchanged: save.keep_unchanged,
     };
     let mut saving = SavingFolder::new(folder(rt, audience), terms);
     match run_shown(rt, audience, &mut saving, job, screens) {
@@ -524,70 +636,44 @@ fn save_done<R: Runtime<A = Global, File = File>>(
     status
 }
 
-/// Runs any code on the checking machine, and saves nothing.
-fn run_tested<R: Runtime<A = Global>>(rt: &R, audience: Audience, job: &Job<'_>) -> Status {
-    let mut folder = folder(rt, audience);
-    let done = run_told(rt, audience, &mut folder, job);
-    report(rt, audience, job.name, &done)
-}
-
-/// Runs the code, saves nothing, and tells what a run would have saved.
-fn rehearse<R: Runtime<A = Global, File = File>>(
-    rt: &R,
-    audience: Audience,
-    job: &Job<'_>,
-    screens: Option<&str>,
-) -> Status {
-    let mut folder = folder(rt, audience);
-    match rehearse_shown(rt, audience, &mut folder, job, screens) {
-        Ok(done) => tell_rehearsed(rt, audience, &done),
-        Err(status) => status,
-    }
-}
-
-/// Prints the rows of a rehearsal, and tells what a run would have saved and how it ended.
-fn tell_rehearsed<R: Runtime<A = Global>>(rt: &R, audience: Audience, done: &Rehearsal) -> Status {
-    let printed = print_bytes(rt, audience, done.rows.as_slice());
-    let _ = eprint!(rt; "{done}");
-    let _ = eprintln!(rt; "{}", done.ended);
-    first_failed(printed, done.ended.status())
-}
-
-/// The folder where it may be held, or why it isn't.
-pub fn hindered(held: &Held, no_lock: bool) -> Option<Hindrance> {
+/// Why the folder isn't held, if it isn't.
+pub fn hindered(held: &Held) -> Option<Hindrance> {
     match held {
         Held::Alone(_) => None,
         Held::Taken => Some(Hindrance::Taken),
-        Held::NoLocks => {
-            if no_lock {
-                None
-            } else {
-                Some(Hindrance::NoLocks)
-            }
-        }
+        Held::LockFile => Some(Hindrance::LockFile),
+        Held::NoLocks => Some(Hindrance::NoLocks),
         Held::Closed => Some(Hindrance::Closed),
+        Held::NoRoom => Some(Hindrance::NoRoom),
     }
 }
 
-/// Finishes a save that was cut off before, if one was, unless the folder isn't held; a status where the run ends with
-/// that.
+/// Finishes a save that was cut off before, if one was; a status where the run ends with that. Returns why the folder
+/// couldn't be held for it, so that nobody waits for the folder twice.
 fn finish_alone<R: Runtime<A = Global, File = File>>(
     rt: &R,
     audience: Audience,
     no_lock: bool,
-) -> Option<Status> {
+) -> Result<Option<Hindrance>, Status> {
     if !save_stands(rt) {
-        return None;
+        return Ok(None);
     }
-    let held = take_folder(rt);
-    match hindered(&held, no_lock) {
-        None => finish_before(rt, audience),
-        Some(_) => None,
+    let held = take_folder(rt, no_lock);
+    let hindrance = hindered(&held);
+    let status = match &held {
+        Held::LockFile => Some(tell_lock_file(rt, audience)),
+        Held::Alone(_) => finish_before(rt, audience),
+        Held::Taken | Held::NoLocks | Held::Closed | Held::NoRoom => None,
+    };
+    let_go(rt, held);
+    match status {
+        Some(status) => Err(status),
+        None => Ok(hindrance),
     }
 }
 
 /// Whether a code is known to have no tables, so that its run saves nothing.
-pub fn has_no_tables<R: Runtime<A = Global>>(rt: &R, name: &str) -> bool {
+pub fn has_no_tables<R: Runtime<A = Global, File = File>>(rt: &R, name: &str) -> bool {
     let mut files = Folder::new(rt, Nobody);
     match read_code(rt.alloc(), &mut files, name) {
         Ok(code) => code.code().declared.shape.tables.len() == 0,
@@ -597,13 +683,15 @@ pub fn has_no_tables<R: Runtime<A = Global>>(rt: &R, name: &str) -> bool {
 
 /// Why no table can be saved, if that is so. In a folder that is held, a save that was cut off before is finished
 /// first; a status where the run ends with that.
-fn hindrance_of<R: Runtime<A = Global>>(
+fn hindrance_of<R: Runtime<A = Global, File = File>>(
     rt: &R,
     audience: Audience,
     held: &Held,
-    no_lock: bool,
 ) -> Result<Option<Hindrance>, Status> {
-    if let Some(hindrance) = hindered(held, no_lock) {
+    if let Held::LockFile = held {
+        return Err(tell_lock_file(rt, audience));
+    }
+    if let Some(hindrance) = hindered(held) {
         return Ok(Some(hindrance));
     }
     match finish_before(rt, audience) {
@@ -613,27 +701,38 @@ fn hindrance_of<R: Runtime<A = Global>>(
 }
 
 /// Carries out a run that saves, all of whose input is there. The folder is held for it alone, unless the code has no
-/// tables; then none is read, whatever stands under the code's name by now.
+/// tables; then none is read, whatever stands under the code's name by now. Where it is known already why the folder
+/// can't be held, nobody waits for it again.
 fn run_alone<R: Runtime<A = Global, File = File>>(
     rt: &R,
     audience: Audience,
     job: &Job<'_>,
     save: SaveWords<'_>,
     screens: Option<&str>,
+    known: Option<Hindrance>,
 ) -> Status {
     if has_no_tables(rt, job.name) {
         return run_and_save(rt, audience, job, save, screens, Some(Hindrance::Taken));
     }
-    let held = take_folder(rt);
-    match hindrance_of(rt, audience, &held, save.no_lock) {
+    if known.is_some() {
+        return run_and_save(rt, audience, job, save, screens, known);
+    }
+    let held = take_folder(rt, save.no_lock);
+    let status = match hindrance_of(rt, audience, &held) {
         Ok(hindrance) => run_and_save(rt, audience, job, save, screens, hindrance),
         Err(status) => status,
-    }
+    };
+    let_go(rt, held);
+    status
 }
 
 /// Looks, where a person types, whether the code's file is there and accepted, before they type in vain; a status where
 /// it isn't.
-fn look_before<R: Runtime<A = Global>>(rt: &R, audience: Audience, name: &str) -> Option<Status> {
+fn look_before<R: Runtime<A = Global, File = File>>(
+    rt: &R,
+    audience: Audience,
+    name: &str,
+) -> Option<Status> {
     let mut folder = folder(rt, audience);
     match verify_file(rt.alloc(), &mut folder, name) {
         Ok(None) => {
@@ -641,28 +740,31 @@ fn look_before<R: Runtime<A = Global>>(rt: &R, audience: Audience, name: &str) -
             None
         }
         Ok(Some(refused)) => {
-            let _ = eprintln!(rt; "refused {name} {refused}");
+            tell(rt, audience, &format_args!("refused {name} {refused}"));
             Some(Status::Refused)
         }
-        Err(refusal) => Some(refuse(rt, refusal)),
+        Err(refusal) => Some(refuse(rt, audience, refusal)),
     }
 }
 
-/// What a run ends with before anything is typed for it, if it ends then.
+/// What a run ends with before anything is typed for it, if it ends then; else why the folder couldn't be held, if
+/// that is known.
 fn ends_before<R: Runtime<A = Global, File = File>>(
     rt: &R,
     audience: Audience,
     words: &RunWords<'_>,
-) -> Option<Status> {
-    if let Outcomes::Saved(save) = words.tables {
-        if let Some(status) = finish_alone(rt, audience, save.no_lock) {
-            return Some(status);
-        }
-    }
+) -> Result<Option<Hindrance>, Status> {
+    let known = match words.tables {
+        Outcomes::Saved(save) => finish_alone(rt, audience, save.no_lock)?,
+        Outcomes::Nothing | Outcomes::Told => None,
+    };
     if words.job.checked || !audience.person || !audience.typing {
-        return None;
+        return Ok(known);
     }
-    look_before(rt, audience, words.job.name)
+    match look_before(rt, audience, words.job.name) {
+        Some(status) => Err(status),
+        None => Ok(known),
+    }
 }
 
 /// Carries out a run, of which only what the operator types is still to be had. A save that was cut off before is
@@ -672,11 +774,12 @@ fn run<R: Runtime<A = Global, File = File>>(
     audience: Audience,
     words: &RunWords<'_>,
 ) -> Status {
-    if let Some(status) = ends_before(rt, audience, words) {
-        return status;
-    }
-    match typed(rt) {
-        Ok(input) => run_typed(rt, audience, words, input.as_slice()),
+    let known = match ends_before(rt, audience, words) {
+        Ok(known) => known,
+        Err(status) => return status,
+    };
+    match typed(rt, audience) {
+        Ok(input) => run_typed(rt, audience, words, input.as_slice(), known),
         Err(status) => status,
     }
 }
@@ -687,6 +790,7 @@ fn run_typed<R: Runtime<A = Global, File = File>>(
     audience: Audience,
     words: &RunWords<'_>,
     input: &[u8],
+    known: Option<Hindrance>,
 ) -> Status {
     let job = Job {
         name: words.job.name,
@@ -697,47 +801,41 @@ fn run_typed<R: Runtime<A = Global, File = File>>(
         input,
     };
     match words.tables {
-        Outcomes::Saved(save) => run_alone(rt, audience, &job, save, words.screens),
-        Outcomes::Nothing => {
-            settle(rt, audience);
-            run_tested(rt, audience, &job)
-        }
-        Outcomes::Told => {
-            settle(rt, audience);
-            rehearse(rt, audience, &job, words.screens)
-        }
+        Outcomes::Saved(save) => run_alone(rt, audience, &job, save, words.screens, known),
+        Outcomes::Nothing => run_tested(rt, audience, &job),
+        Outcomes::Told => rehearse(rt, audience, &job, words.screens),
     }
 }
 
-fn verify<R: Runtime<A = Global>>(rt: &R, audience: Audience, name: &str) -> Status {
+fn verify<R: Runtime<A = Global, File = File>>(rt: &R, audience: Audience, name: &str) -> Status {
     let mut folder = folder(rt, audience);
     let (written, status) = match verify_file(rt.alloc(), &mut folder, name) {
         Ok(None) => (println!(rt; "accepted"), Status::Done),
         Ok(Some(refused)) => (println!(rt; "refused {refused}"), Status::Refused),
-        Err(refusal) => return refuse(rt, refusal),
+        Err(refusal) => return refuse(rt, audience, refusal),
     };
     first_failed(status_of(rt, written), status)
 }
 
 /// Prints the lines of a listing.
-fn print_lines<R: Runtime<A = Global>>(
+fn print_lines<R: Runtime<A = Global, File = File>>(
     rt: &R,
     audience: Audience,
     listed: Result<Vec<u8>, Refusal<'_>>,
 ) -> Status {
     match listed {
         Ok(lines) => print_bytes(rt, audience, lines.as_slice()),
-        Err(refusal) => refuse(rt, refusal),
+        Err(refusal) => refuse(rt, audience, refusal),
     }
 }
 
-fn code<R: Runtime<A = Global>>(rt: &R, audience: Audience, name: &str) -> Status {
+fn code<R: Runtime<A = Global, File = File>>(rt: &R, audience: Audience, name: &str) -> Status {
     let mut folder = folder(rt, audience);
     print_lines(rt, audience, list_code(rt.alloc(), &mut folder, name))
 }
 
 /// Prints lines in UTF-8, where the words say what their bytes stand for.
-fn print_listing<R: Runtime<A = Global>>(
+fn print_listing<R: Runtime<A = Global, File = File>>(
     rt: &R,
     audience: Audience,
     page: Option<CodePage>,
@@ -764,7 +862,7 @@ fn letters_of(alloc: Global, page: CodePage, lines: &[u8]) -> Result<String, All
 }
 
 /// The lines of a table.
-fn table_lines<'a, R: Runtime<A = Global>>(
+fn table_lines<'a, R: Runtime<A = Global, File = File>>(
     rt: &R,
     audience: Audience,
     listing: Listing<'a>,
@@ -782,21 +880,23 @@ fn list<R: Runtime<A = Global, File = File>>(
     audience: Audience,
     listing: Listing<'_>,
 ) -> Status {
-    settle(rt, audience);
+    let _ = settle(rt, audience);
     match table_lines(rt, audience, listing) {
         Ok(lines) => print_listing(rt, audience, listing.page, lines.as_slice()),
-        Err(refusal) => refuse(rt, refusal),
+        Err(refusal) => refuse(rt, audience, refusal),
     }
 }
 
 fn index<R: Runtime<A = Global, File = File>>(rt: &R, audience: Audience, name: &str) -> Status {
-    settle(rt, audience);
+    let _ = settle(rt, audience);
     let mut folder = folder(rt, audience);
     print_lines(rt, audience, list_index(rt.alloc(), &mut folder, name))
 }
 
 /// The names in the current folder, each ended by a zero byte.
-pub fn folder_names<R: Runtime<A = Global>>(rt: &R) -> Result<Vec<u8>, Refusal<'static>> {
+pub fn folder_names<R: Runtime<A = Global, File = File>>(
+    rt: &R,
+) -> Result<Vec<u8>, Refusal<'static>> {
     let Ok(mut names) = rt.open_dir(".") else {
         return Err(Refusal::Disk { name: "." });
     };
@@ -818,7 +918,7 @@ fn in_order(alloc: Global, names: &[u8]) -> Result<Vec<&[u8]>, AllocError> {
 }
 
 /// Prints the declaration file of the files of these names.
-fn print_declared<'n, R: Runtime<A = Global>>(
+fn print_declared<'n, R: Runtime<A = Global, File = File>>(
     rt: &R,
     audience: Audience,
     names: &'n [&'n [u8]],
@@ -848,10 +948,10 @@ fn print_declared_lines<'n, R: Runtime>(
 }
 
 fn declare_folder<R: Runtime<A = Global, File = File>>(rt: &R, audience: Audience) -> Status {
-    settle(rt, audience);
+    let _ = settle(rt, audience);
     let bytes = match folder_names(rt) {
         Ok(bytes) => bytes,
-        Err(refusal) => return refuse(rt, refusal),
+        Err(refusal) => return refuse(rt, audience, refusal),
     };
     let Ok(names) = in_order(rt.alloc(), bytes.as_slice()) else {
         return no_memory(rt);
@@ -862,11 +962,30 @@ fn declare_folder<R: Runtime<A = Global, File = File>>(rt: &R, audience: Audienc
     }
 }
 
-/// Refuses a folder for copies that is neither absent nor empty.
-pub fn may_back_up<R: Runtime<A = Global>>(rt: &R, tables: Outcomes<'_>) -> Result<(), WordsFault> {
+/// Whether a folder can take copies of the files that a run of this code saves.
+fn may_copy_to<R: Runtime<A = Global, File = File>>(
+    rt: &R,
+    path: &str,
+    code: &str,
+) -> Result<bool, AllocError> {
+    let names = declared_files(rt, code)?;
+    let mut lent = Vec::with_capacity(rt.alloc(), names.len())?;
+    for name in &names {
+        lent.push(name.as_str())?;
+    }
+    Ok(may_take_copies(rt, path, lent.as_slice()))
+}
+
+/// Refuses a folder for copies that holds anything but what an interrupted run of this code left there.
+pub fn may_back_up<R: Runtime<A = Global, File = File>>(
+    rt: &R,
+    tables: Outcomes<'_>,
+    code: &str,
+) -> Result<(), WordsFault> {
     if let Outcomes::Saved(save) = tables {
         if let Some(path) = save.backup {
-            if !is_empty_folder(rt, path) {
+            // where a committed save is found, nothing is run, and so nothing is copied
+            if !note_stands(rt) && !may_copy_to(rt, path, code).unwrap_or(false) {
                 return Err(WordsFault::Backup);
             }
         }
@@ -884,7 +1003,7 @@ fn carry_out<R: Runtime<A = Global, File = File>>(
         Words::Compile { decl, out } => compile(rt, audience, decl, out, &*sources),
         Words::Faults { decl } => faults(rt, audience, decl, &*sources),
         Words::Run(words) => {
-            may_back_up(rt, words.tables)?;
+            may_back_up(rt, words.tables, words.job.name)?;
             may_show(rt, words)?;
             Ok(run(rt, audience, words))
         }
@@ -915,7 +1034,8 @@ fn carry_out_all<R: Runtime<A = Global, File = File>>(
 
 /// Tells on standard error that memory was refused.
 pub fn no_memory(rt: &impl Runtime) -> Status {
-    refuse(rt, Refusal::Memory)
+    let _ = eprintln!(rt; "{}", Refusal::Memory);
+    Status::Memory
 }
 
 /// Prints the version that was asked for.
@@ -951,7 +1071,7 @@ fn message(fault: WordsFault) -> &'static str {
         WordsFault::Continued =>
             "a conversation that goes on has the options with which it was begun",
         WordsFault::Rehearsed =>
-            "a rehearsal saves nothing; leave out --only-finished, --backup and --new-owner",
+            "a rehearsal saves nothing; leave out --only-finished, --backup, --new-owner and --keep-unchanged",
         WordsFault::Zone =>
             "the zone of TZ isn't known, or its day isn't in the years 1900 to 2155; give --today",
         WordsFault::Missing | WordsFault::Out(_) => "a word is missing",
@@ -961,28 +1081,32 @@ fn message(fault: WordsFault) -> &'static str {
 /// What a code file would overwrite, in words.
 fn out_message(
     alloc: Global,
+    audience: Audience,
     matches: &ArgMatches<'_>,
     what: Overwritten,
 ) -> Result<String, AllocError> {
     let names = sources_of(matches).unwrap_or(&[]);
+    let at_terminal = audience.person;
     match words_of(matches) {
         Ok(Words::Compile { decl, out }) => {
             let words = CompileWords { decl, out, names };
-            format!(in alloc; "{}", OutTold { what, words })
+            let what = &OutTold { what, words };
+            format!(in alloc; "{}", Escaped { what, at_terminal })
         }
         _ => String::from_str(alloc, message(WordsFault::Missing)),
     }
 }
 
 /// Tells what is wrong with words that the parser took.
-fn refuse_fault<R: Runtime<A = Global>>(
+fn refuse_fault<R: Runtime<A = Global, File = File>>(
     rt: &R,
+    audience: Audience,
     command: &mut Command<'_>,
     matches: &ArgMatches<'_>,
     fault: WordsFault,
 ) -> Status {
     let told = match fault {
-        WordsFault::Out(what) => out_message(rt.alloc(), matches, what),
+        WordsFault::Out(what) => out_message(rt.alloc(), audience, matches, what),
         _ => String::from_str(rt.alloc(), message(fault)),
     };
     let Ok(told) = told else {
@@ -991,6 +1115,30 @@ fn refuse_fault<R: Runtime<A = Global>>(
     match command.error(ErrorKind::ValueValidation, told.as_str()) {
         Ok(error) => refuse_words(rt, &error),
         Err(_) => no_memory(rt),
+    }
+}
+
+/// The words as a terminal is sent them.
+fn escaped_words(alloc: Global, arguments: &[String]) -> Result<Vec<String>, AllocError> {
+    let mut words = Vec::with_capacity(alloc, arguments.len())?;
+    for word in arguments {
+        words.push(escaped_name(alloc, word.as_str())?)?;
+    }
+    Ok(words)
+}
+
+/// Tells what is wrong with words that the parser refused, and that hold what a terminal would obey: what it says of
+/// the same words as a terminal is sent them.
+fn refuse_escaped<R: Runtime<A = Global, File = File>>(rt: &R, arguments: &[String]) -> Status {
+    let Ok(words) = escaped_words(rt.alloc(), arguments) else {
+        return no_memory(rt);
+    };
+    let Ok(mut command) = command(rt.alloc()) else {
+        return no_memory(rt);
+    };
+    match command.try_get_matches_from_mut(words.as_slice()) {
+        Ok(_) => Status::Words,
+        Err(error) => refuse_words(rt, &error),
     }
 }
 
@@ -1006,13 +1154,16 @@ fn answer<R: Runtime<A = Global, File = File>>(
     match command.try_get_matches_from_mut(arguments) {
         Ok(matches) => match carry_out_all(rt, audience, &matches) {
             Ok(status) => status,
-            Err(fault) => refuse_fault(rt, &mut command, &matches, fault),
+            Err(fault) => refuse_fault(rt, audience, &mut command, &matches, fault),
         },
+        Err(_) if audience.person && arguments.iter().any(|word| has_obeyed(word.as_str())) => {
+            refuse_escaped(rt, arguments)
+        }
         Err(error) => refuse_words(rt, &error),
     }
 }
 
-fn arguments<R: Runtime<A = Global>>(rt: &R) -> io::Result<Vec<String>> {
+fn arguments<R: Runtime<A = Global, File = File>>(rt: &R) -> io::Result<Vec<String>> {
     let arguments = env::args(rt)?.collect(rt.alloc())?;
     Ok(arguments)
 }

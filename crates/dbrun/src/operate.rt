@@ -2,26 +2,27 @@
 
 ghost use Rattle.std.specs.Prelude.{◌≡◌, false};
 
+use crate::escaped::tell;
+use crate::rehearsing::{seen_folder, tell_real_end};
 use crate::screens::{is_backup, is_free_name, is_new_name, is_path_of};
-use crate::shown::{Audience, NameTold, Progress, of_end};
+use crate::shown::{Audience, Progress, RecordedName, of_end};
 use crate::{
     finish_before, first_failed, folder, has_no_tables, hindered, may_back_up, refuse,
-    tell_hindered, tell_unfinished, tell_unsaved,
+    tell_hindered, tell_lock_file, tell_unfinished, tell_unsaved,
 };
 use command_words::{DEFAULT_BUDGET, OperateWords, Outcomes, ShownWords, TalkWords, WordsFault};
 use file_access::{FILE_LIMIT, Files, ReadFault};
 use file_commands::{Refusal, Status};
 use folder_files::{
     FileSum, Folder, Held, Hindrance, JournalFault, Listener, SaveTerms, SavingFolder, Tail,
-    UnfinishedSave, Unsaved, hindered_plan, note_stands, paper_name, put_new_file, stands, sum_of,
-    take_folder,
+    UnfinishedSave, Unsaved, hindered_plan, let_go, note_stands, paper_name, put_new_file, stands,
+    sum_of, take_folder,
 };
 use journal_papers::{JournalPaper, PaperFault, first_changed};
 use journal_steps::{Next, Remains, next_of};
-use operating::{Broken, MOST_TYPED};
+use operating::{Broken, MOST_TYPED, OperatorFailed};
 use operator_desk::{
-    Gets, KeptJournal, Manner, OperatorDesk, OwnLines, Record, Screens, TakenLines, Talk, TalkSave,
-    local_day, talk_in,
+    KeptJournal, Manner, OperatorDesk, Record, Screens, Talk, TalkSave, local_day, talk_in,
 };
 use run_commands::{
     Ended, Job, OperateRefusal, OperationReport, Rehearsal, RunDay, RunRefusal, operate_files,
@@ -119,7 +120,7 @@ fn names_of(alloc: Global, words: &OperateWords<'_>) -> Result<Option<Names>, Al
 }
 
 /// Whether a file for screens harms nothing.
-fn may_write_screens<R: Runtime<A = Global>>(
+fn may_write_screens<R: Runtime<A = Global, File = File>>(
     rt: &R,
     words: &OperateWords<'_>,
     names: &Names,
@@ -148,11 +149,12 @@ fn save_of(alloc: Global, tables: Outcomes<'_>) -> Result<Option<TalkSave>, Allo
         },
         new_owner: save.new_owner,
         no_lock: save.no_lock,
+        keep_unchanged: save.keep_unchanged,
     }))
 }
 
 /// The day of a conversation: the computer's where the words don't say one.
-fn day_of<R: Runtime<A = Global>>(rt: &R, words: &TalkWords<'_>) -> Option<RunDay> {
+fn day_of<R: Runtime<A = Global, File = File>>(rt: &R, words: &TalkWords<'_>) -> Option<RunDay> {
     match words.day {
         Some(day) => Some(day),
         None => local_day(rt),
@@ -202,20 +204,20 @@ fn advise(rt: &impl Runtime, audience: Audience, sentence: &str) {
 }
 
 /// Tells on standard error that a file isn't taken, and why.
-fn tell_file(rt: &impl Runtime, name: &str, why: &str) -> Status {
-    let _ = eprintln!(rt; "refused {name} {why}");
+fn tell_file(rt: &impl Runtime, audience: Audience, name: &str, why: &str) -> Status {
+    tell(rt, audience, &format_args!("refused {name} {why}"));
     Status::Refused
 }
 
 /// Tells that a file isn't as it was when the conversation was begun.
 fn tell_changed(rt: &impl Runtime, audience: Audience, name: &str) -> Status {
-    let status = tell_file(rt, name, "Changed");
+    let status = tell_file(rt, audience, name, "Changed");
     advise(rt, audience, CHANGED);
     status
 }
 
 /// What to do where a failure stopped a conversation.
-fn of_stop<R: Runtime<A = Global>>(rt: &R, names: &Names) -> &'static str {
+fn of_stop<R: Runtime<A = Global, File = File>>(rt: &R, names: &Names) -> &'static str {
     if stands(rt, names.begun.as_str()) {
         STOPPED
     } else {
@@ -224,26 +226,30 @@ fn of_stop<R: Runtime<A = Global>>(rt: &R, names: &Names) -> &'static str {
 }
 
 /// Tells that the device failed at a file, or at the terminal, and how the conversation can go on.
-fn tell_stopped<R: Runtime<A = Global>>(
+fn tell_stopped<R: Runtime<A = Global, File = File>>(
     rt: &R,
     audience: Audience,
     names: &Names,
     name: &str,
 ) -> Status {
-    let status = refuse(rt, Refusal::Disk { name });
+    let status = refuse(rt, audience, Refusal::Disk { name });
     advise(rt, audience, of_stop(rt, names));
     status
 }
 
 /// Tells that memory was refused, and how the conversation can go on.
-fn tell_no_memory<R: Runtime<A = Global>>(rt: &R, audience: Audience, names: &Names) -> Status {
-    let status = refuse(rt, Refusal::Memory);
+fn tell_no_memory<R: Runtime<A = Global, File = File>>(
+    rt: &R,
+    audience: Audience,
+    names: &Names,
+) -> Status {
+    let status = refuse(rt, audience, Refusal::Memory);
     advise(rt, audience, of_stop(rt, names));
     status
 }
 
 /// Tells why a journal isn't made or taken up.
-fn tell_journal<R: Runtime<A = Global>>(
+fn tell_journal<R: Runtime<A = Global, File = File>>(
     rt: &R,
     audience: Audience,
     open: &Open<'_>,
@@ -251,11 +257,14 @@ fn tell_journal<R: Runtime<A = Global>>(
 ) -> Status {
     let name = open.names.journal.as_str();
     let (status, sentence) = match fault {
-        JournalFault::Exists => (tell_file(rt, name, "Exists"), NO_TALK),
-        JournalFault::Held => (tell_file(rt, name, "Held"), HELD),
-        JournalFault::Absent => (tell_file(rt, name, "Absent"), NO_TALK),
-        JournalFault::TooLong => (tell_file(rt, name, "TooLong"), NO_TALK),
-        JournalFault::Disk if open.said.is_none() => (refuse(rt, Refusal::Disk { name }), UNMADE),
+        JournalFault::Exists => (tell_file(rt, audience, name, "Exists"), NO_TALK),
+        JournalFault::Held => (tell_file(rt, audience, name, "Held"), HELD),
+        JournalFault::Absent => (tell_file(rt, audience, name, "Absent"), NO_TALK),
+        JournalFault::TooLong => (tell_file(rt, audience, name, "TooLong"), NO_TALK),
+        JournalFault::Disk if open.said.is_none() => (
+            refuse(rt, audience, Refusal::Disk { name }),
+            UNMADE,
+        ),
         JournalFault::Disk => return tell_stopped(rt, audience, open.names, name),
         JournalFault::Memory => return tell_no_memory(rt, audience, open.names),
     };
@@ -264,7 +273,7 @@ fn tell_journal<R: Runtime<A = Global>>(
 }
 
 /// What stands of a conversation in the folder, no file of whose run was read. An empty journal alone counts as none.
-fn found_of<R: Runtime<A = Global>>(rt: &R, names: &Names) -> Remains {
+fn found_of<R: Runtime<A = Global, File = File>>(rt: &R, names: &Names) -> Remains {
     Remains {
         journal: stands(rt, names.journal.as_str()) && !is_left_empty(rt, names),
         begun: stands(rt, names.begun.as_str()),
@@ -296,10 +305,10 @@ fn tell_next(
     next: Next,
 ) -> Status {
     let status = match next {
-        Next::Ended => tell_file(rt, names.journal.as_str(), "Finished"),
-        Next::Missing => tell_file(rt, names.journal.as_str(), "Absent"),
-        Next::Changed => tell_file(rt, names.journal.as_str(), "Changed"),
-        _ => tell_file(rt, names.journal.as_str(), "Exists"),
+        Next::Ended => tell_file(rt, audience, names.journal.as_str(), "Finished"),
+        Next::Missing => tell_file(rt, audience, names.journal.as_str(), "Absent"),
+        Next::Changed => tell_file(rt, audience, names.journal.as_str(), "Changed"),
+        _ => tell_file(rt, audience, names.journal.as_str(), "Exists"),
     };
     advise(rt, audience, of_next(next, found));
     status
@@ -315,13 +324,13 @@ fn paper_in(alloc: Global, bytes: &[u8]) -> Result<JournalPaper, PaperFault> {
 
 /// Tells that the text of a beginning isn't one that a conversation wrote.
 fn tell_foreign(rt: &impl Runtime, audience: Audience, names: &Names) -> Status {
-    let status = tell_file(rt, names.begun.as_str(), "Foreign");
+    let status = tell_file(rt, audience, names.begun.as_str(), "Foreign");
     advise(rt, audience, FOREIGN);
     status
 }
 
 /// The text of a beginning that stands.
-fn read_begun<R: Runtime<A = Global>>(
+fn read_begun<R: Runtime<A = Global, File = File>>(
     rt: &R,
     audience: Audience,
     names: &Names,
@@ -440,31 +449,22 @@ fn desk_of<'a, R: Runtime<A = Global, File = File>>(
     let record = record_of(rt, open, tail)?;
     let screens = screens_of(alloc, open)?;
     let held = Vec::from_slice(alloc, held)?;
-    Ok(OperatorDesk {
+    let manner = Manner {
+        typing: audience.typing,
+        one_terminal: audience.person && audience.rows,
+        rows: audience.rows,
+        window: open.window,
+        page: open.talk.page,
+    };
+    Ok(OperatorDesk::new(
         rt,
-        manner: Manner {
-            typing: audience.typing,
-            one_terminal: audience.person && audience.rows,
-            rows: audience.rows,
-            window: open.window,
-            page: open.talk.page,
-        },
-        talk: open.talk,
-        sums: open.sums,
+        manner,
+        open.talk,
+        open.sums,
         record,
-        screens: Screens::to(screens),
-        gets: Gets::new(alloc),
-        held: OwnLines::of(held),
-        reader: rt.reader(),
-        shown: 0,
-        before: Vec::new(alloc),
-        note: "",
-        cut: String::new(alloc),
-        ended: false,
-        last_note: "",
-        lacks_letter: false,
-        answers: TakenLines::new(alloc),
-    })
+        Screens::to(screens),
+        held,
+    ))
 }
 
 /// Takes away what is drawn in a window, line by line, so that no terminal keeps it in its scrollback, and puts the
@@ -482,13 +482,13 @@ fn leave_drawing(rt: &impl Runtime) {
     let _ = eprint!(rt; "\x1b[0m\x1b[25;1H\r\n");
 }
 
-/// Prints the rows that aren't printed yet. What was drawn gives way to them. Whether they could be printed.
+/// Prints the rows that aren't printed yet. What was drawn gives way to them.
 fn print_rest<R: Runtime<A = Global, File = File>>(
     rt: &R,
     audience: Audience,
     desk: &OperatorDesk<'_, R>,
     rows: &[u8],
-) -> bool {
+) -> Result<(), OperatorFailed> {
     if let Some(window) = desk.manner.window {
         if desk.manner.one_terminal {
             wipe(rt, window);
@@ -497,20 +497,38 @@ fn print_rest<R: Runtime<A = Global, File = File>>(
         }
     }
     let rest = &rows[desk.shown.min(rows.len())..];
-    if desk.print_rows(rt.alloc(), rest).is_err() {
-        return false;
-    }
+    desk.print_rows(rt.alloc(), rest)?;
     if audience.person && !desk.note.is_empty() {
         let _ = eprintln!(rt; "{}", desk.note);
     }
     if !desk.last_note.is_empty() {
         let _ = eprintln!(rt; "{}", desk.last_note);
     }
-    true
+    Ok(())
+}
+
+/// What refuses the last rows.
+fn unprinted(why: OperatorFailed) -> Refusal<'static> {
+    match why {
+        OperatorFailed::Memory => Refusal::Memory,
+        OperatorFailed::Other => Refusal::Disk { name: "-" },
+    }
+}
+
+/// Tells that the last rows weren't printed, and how the conversation can go on.
+fn tell_unprinted<R: Runtime<A = Global, File = File>>(
+    rt: &R,
+    audience: Audience,
+    names: &Names,
+    why: OperatorFailed,
+) -> Status {
+    let status = refuse(rt, audience, unprinted(why));
+    advise(rt, audience, of_stop(rt, names));
+    status
 }
 
 /// Tells why the operator's desk failed: a file isn't as it was, or can't be written, or a line has a letter that the
-/// page lacks, or the terminal failed. Memory that was refused at the desk counts as a failure of the terminal.
+/// page lacks, or the terminal failed.
 fn tell_desk<R: Runtime<A = Global, File = File>>(
     rt: &R,
     audience: Audience,
@@ -521,7 +539,7 @@ fn tell_desk<R: Runtime<A = Global, File = File>>(
         (Some(name), _) => tell_changed(rt, audience, name.as_str()),
         (None, Some(name)) => tell_stopped(rt, audience, open.names, name.as_str()),
         (None, None) if desk.lacks_letter => {
-            let status = tell_file(rt, "-", "Letter");
+            let status = tell_file(rt, audience, "-", "Letter");
             advise(rt, audience, NO_LETTER);
             status
         }
@@ -546,15 +564,19 @@ fn changed_in(alloc: Global, open: &Open<'_>) -> Option<String> {
 }
 
 /// Takes the journal away of a conversation that didn't begin, if it was made for it: nothing was typed.
-fn leave_no_journal<R: Runtime<A = Global>>(rt: &R, names: &Names, journal: &KeptJournal) {
+fn leave_no_journal<R: Runtime<A = Global, File = File>>(
+    rt: &R,
+    names: &Names,
+    journal: &KeptJournal,
+) {
     if is_left_empty(rt, names) {
         journal.file.take_away(rt, names.journal.as_str());
     }
 }
 
 /// Tells why a run wasn't carried out. A file that was changed since the conversation was begun is told first.
-fn tell_no_run<'a, R: Runtime<A = Global, File = File>>(
-    rt: &'a R,
+fn tell_no_run<R: Runtime<A = Global, File = File>>(
+    rt: &R,
     audience: Audience,
     open: &Open<'_>,
     refusal: &RunRefusal,
@@ -574,12 +596,12 @@ fn tell_no_run<'a, R: Runtime<A = Global, File = File>>(
 }
 
 /// Tells why a conversation came to no end. No file was changed, and the journal stays.
-fn tell_broken<'a, R: Runtime<A = Global, File = File>>(
-    rt: &'a R,
+fn tell_broken<R: Runtime<A = Global, File = File>>(
+    rt: &R,
     audience: Audience,
     open: &Open<'_>,
     desk: &OperatorDesk<'_, R>,
-    saving: &SavingFolder<'_, R, Progress<'a, R>>,
+    hindrance: Option<Hindrance>,
     refusal: &OperateRefusal,
 ) -> Status {
     if let (OperateRefusal::Broke(Broken::Journal | Broken::Memory), Some(_)) = (
@@ -589,9 +611,7 @@ fn tell_broken<'a, R: Runtime<A = Global, File = File>>(
         leave_drawing(rt);
     }
     match refusal {
-        OperateRefusal::Run(refusal) => {
-            tell_no_run(rt, audience, open, refusal, saving.hindrance())
-        }
+        OperateRefusal::Run(refusal) => { tell_no_run(rt, audience, open, refusal, hindrance) }
         OperateRefusal::Handed => tell_journal(rt, audience, open, JournalFault::TooLong),
         OperateRefusal::Broke(Broken::Journal) => {
             tell_stopped(rt, audience, open.names, open.names.journal.as_str())
@@ -683,8 +703,8 @@ fn end_unsaved<R: Runtime<A = Global, File = File>>(
     rows: &[u8],
     ended: &Ended,
 ) -> Status {
-    if !print_rest(rt, audience, desk, rows) {
-        return tell_stopped(rt, audience, open.names, "-");
+    if let Err(why) = print_rest(rt, audience, desk, rows) {
+        return tell_unprinted(rt, audience, open.names, why);
     }
     tell_unsaved_end(rt, audience, open, journal, ended)
 }
@@ -698,10 +718,11 @@ fn end_rehearsed<R: Runtime<A = Global, File = File>>(
     desk: &OperatorDesk<'_, R>,
     told: &Rehearsal,
 ) -> Status {
-    if !print_rest(rt, audience, desk, told.rows.as_slice()) {
-        return tell_stopped(rt, audience, open.names, "-");
+    if let Err(why) = print_rest(rt, audience, desk, told.rows.as_slice()) {
+        return tell_unprinted(rt, audience, open.names, why);
     }
     let _ = eprint!(rt; "{told}");
+    tell_real_end(rt, audience, open.code);
     tell_unsaved_end(rt, audience, open, journal, &told.ended)
 }
 
@@ -712,16 +733,22 @@ fn advise_unsaved(rt: &impl Runtime, audience: Audience, open: &Open<'_>, unsave
         return;
     }
     let (journal, begun) = (open.names.journal.as_str(), open.names.begun.as_str());
-    let _ = match unsaved {
-        Unsaved::Changed { .. } => eprintln!(rt;
-            "  what was typed stands in {journal}; put the file back and use --continue, \
+    match unsaved {
+        Unsaved::Changed { .. } => tell(
+            rt,
+            audience,
+            &format_args!(
+                "  what was typed stands in {journal}; put the file back and use --continue, \
              or give it to run with the options in {begun}."
+            ),
         ),
-        Unsaved::Disk { .. } | Unsaved::Backup | Unsaved::Memory => eprintln!(rt;
-            "  what was typed stands in {journal}; --continue goes on."
+        Unsaved::Disk { .. } | Unsaved::Backup | Unsaved::Memory => tell(
+            rt,
+            audience,
+            &format_args!("  what was typed stands in {journal}; --continue goes on."),
         ),
-        Unsaved::Cut { .. } => Ok(()),
-    };
+        Unsaved::Cut { .. } => {}
+    }
 }
 
 /// Ends a conversation whose run is saved: tables, indexes and the text of the end all together or not at all.
@@ -739,10 +766,9 @@ fn end_saved<'a, R: Runtime<A = Global, File = File>>(
         return status;
     }
     let committed = saving.commit();
-    let printed = if print_rest(rt, audience, desk, rows) {
-        Status::Done
-    } else {
-        refuse(rt, Refusal::Disk { name: "-" })
+    let printed = match print_rest(rt, audience, desk, rows) {
+        Ok(()) => Status::Done,
+        Err(why) => refuse(rt, audience, unprinted(why)),
     };
     if let Err(unsaved) = committed {
         let status = tell_unsaved(rt, audience, saving, unsaved, backup_of(open.talk));
@@ -765,7 +791,9 @@ fn conclude<'a, R: Runtime<A = Global, File = File>>(
     let rows = told.rows.as_slice();
     let ended = match &told.result {
         Ok(ended) => ended,
-        Err(refusal) => return tell_broken(rt, audience, open, desk, saving, refusal),
+        Err(refusal) => {
+            return tell_broken(rt, audience, open, desk, saving.hindrance(), refusal);
+        }
     };
     match &open.talk.save {
         Some(save) if ended.is_saved(save.only_finished) => {
@@ -802,21 +830,12 @@ fn backup_of(talk: &Talk) -> Option<&str> {
 }
 
 /// On which terms a conversation replaces files.
-fn terms_of(talk: &Talk, closed: Option<Hindrance>) -> SaveTerms<'_> {
-    let backup = backup_of(talk);
-    match &talk.save {
-        Some(save) => SaveTerms {
-            closed,
-            saves: true,
-            takes_over: save.new_owner,
-            backup,
-        },
-        None => SaveTerms {
-            closed: None,
-            saves: false,
-            takes_over: false,
-            backup,
-        },
+fn terms_of<'t>(save: &'t TalkSave, closed: Option<Hindrance>) -> SaveTerms<'t> {
+    SaveTerms {
+        closed,
+        takes_over: save.new_owner,
+        backup: save.backup.as_ref().map(|path| path.as_str()),
+        keep_unchanged: save.keep_unchanged,
     }
 }
 
@@ -858,22 +877,40 @@ fn talk_at_desk<'a, R: Runtime<A = Global, File = File>>(
 ) -> Status
     requires { input.now ≡ journal.old.bytes.items }
 {
-    let alloc = rt.alloc();
     let job = job_of(open.code, open.talk, input);
+    let Some(save) = &open.talk.save else {
+        return rehearse_at_desk(rt, audience, open, journal, desk, &job);
+    };
     let noting = Progress {
         rt,
         audience,
         sums: Some(open.sums),
     };
-    let mut saving = SavingFolder::new(Folder::new(rt, noting), terms_of(open.talk, closed));
-    if open.talk.save.is_none() {
-        return match rehearse_talk(alloc, &mut saving, &job, MOST_TYPED, journal, desk) {
-            Ok(told) => end_rehearsed(rt, audience, open, journal, desk, &told),
-            Err(refusal) => tell_broken(rt, audience, open, desk, &saving, &refusal),
-        };
-    }
-    let told = operate_files(alloc, &mut saving, &job, MOST_TYPED, journal, desk);
+    let mut saving = SavingFolder::new(Folder::new(rt, noting), terms_of(save, closed));
+    let told = operate_files(rt.alloc(), &mut saving, &job, MOST_TYPED, journal, desk);
     conclude(rt, audience, open, journal, desk, &mut saving, &told)
+}
+
+/// Rehearses a conversation at its desk, over files of one moment.
+fn rehearse_at_desk<'a, R: Runtime<A = Global, File = File>>(
+    rt: &'a R,
+    audience: Audience,
+    open: &Open<'a>,
+    journal: &mut KeptJournal,
+    desk: &mut OperatorDesk<'a, R>,
+    job: &Job<'_>,
+) -> Status
+    requires untested { job.now.checked ≡ false }
+    requires input { job.now.input.now ≡ journal.old.bytes.items }
+{
+    let mut seen = match seen_folder(rt, audience, open.code, Some(open.sums)) {
+        Ok(seen) => seen,
+        Err(status) => return status,
+    };
+    match rehearse_talk(rt.alloc(), &mut seen, job, MOST_TYPED, journal, desk) {
+        Ok(told) => end_rehearsed(rt, audience, open, journal, desk, &told),
+        Err(refusal) => tell_broken(rt, audience, open, desk, seen.hindrance(), &refusal),
+    }
 }
 
 /// How a conversation ended, as these bytes of the text of its end say.
@@ -883,7 +920,11 @@ fn end_in(alloc: Global, bytes: &[u8]) -> Option<String> {
 }
 
 /// How a conversation ended, as the text of its end says.
-fn end_of<R: Runtime<A = Global>>(rt: &R, audience: Audience, names: &Names) -> Option<String> {
+fn end_of<R: Runtime<A = Global, File = File>>(
+    rt: &R,
+    audience: Audience,
+    names: &Names,
+) -> Option<String> {
     let mut folder = folder(rt, audience);
     match folder.read(rt.alloc(), names.done.as_str(), FILE_LIMIT) {
         Ok(bytes) => end_in(rt.alloc(), bytes.as_slice()),
@@ -892,7 +933,7 @@ fn end_of<R: Runtime<A = Global>>(rt: &R, audience: Audience, names: &Names) -> 
 }
 
 /// Finishes the save that a note tells of, where the folder is held. Where it is the conversation's, its end is told.
-fn finish_noted<R: Runtime<A = Global>>(
+fn finish_noted<R: Runtime<A = Global, File = File>>(
     rt: &R,
     audience: Audience,
     names: &Names,
@@ -905,18 +946,49 @@ fn finish_noted<R: Runtime<A = Global>>(
     let status = finish_before(rt, audience).unwrap_or(Status::Disk);
     if !stood {
         if let Some(end) = end_of(rt, audience, names) {
-            let _ = eprintln!(rt; "{} {}", names.journal, NameTold(end.as_str()));
+            tell(
+                rt,
+                audience,
+                &format_args!(
+                    "{} {}",
+                    names.journal,
+                    RecordedName {
+                        name: end.as_str(),
+                        audience
+                    }
+                ),
+            );
         }
     }
     status
 }
 
-/// The hold of the folder where what a conversation leaves is saved. A rehearsal lets it go.
-fn hold_of(held: Held, talk: &Talk) -> Option<Held> {
-    if talk.save.is_some() {
-        Some(held)
+/// The folder for a conversation. One that saves needs it for itself; one that is rehearsed needs it only to finish a
+/// committed save that it finds.
+fn folder_for<R: Runtime<A = Global, File = File>>(
+    rt: &R,
+    saves: bool,
+    no_lock: bool,
+) -> Option<Held> {
+    if saves || note_stands(rt) {
+        Some(take_folder(rt, no_lock))
     } else {
         None
+    }
+}
+
+/// Lets the folder of a conversation go, if it was taken.
+fn leave_folder<R: Runtime<A = Global, File = File>>(rt: &R, held: Option<Held>) {
+    if let Some(held) = held {
+        let_go(rt, held);
+    }
+}
+
+/// Why the folder isn't held that a conversation asked for, if it isn't.
+fn hindered_by(held: &Option<Held>) -> Option<Hindrance> {
+    match held {
+        Some(held) => hindered(held),
+        None => None,
     }
 }
 
@@ -925,26 +997,30 @@ fn may_talk<R: Runtime<A = Global, File = File>>(
     rt: &R,
     audience: Audience,
     open: &Open<'_>,
-    held: &Held,
+    held: &Option<Held>,
 ) -> Result<Option<Hindrance>, Status> {
-    let closed = hindered(held, open.talk.no_lock());
+    if let Some(Held::LockFile) = held {
+        return Err(tell_lock_file(rt, audience));
+    }
+    let closed = hindered_by(held);
     let found = found_of(rt, open.names);
     match next_of(found, open.said.is_some()) {
         Next::Begin | Next::GoOn => {}
         Next::Finish => return Err(finish_noted(rt, audience, open.names, closed)),
         next => return Err(tell_next(rt, audience, open.names, found, next)),
     }
-    if closed.is_none() {
-        // a save that hadn't come to its note is taken away
-        if let Some(status) = finish_before(rt, audience) {
-            return Err(status);
-        }
+    if open.talk.save.is_none() {
+        return Ok(None);
     }
     let closed = match closed {
-        None if open.talk.save.is_some() => hindered_plan(rt),
+        // a save that hadn't come to its note is taken away
+        None => match finish_before(rt, audience) {
+            Some(status) => return Err(status),
+            None => hindered_plan(rt),
+        },
         closed => closed,
     };
-    if closed.is_some() && open.talk.save.is_some() && has_no_tables(rt, open.code) {
+    if closed.is_some() && has_no_tables(rt, open.code) {
         // the text of its end is saved, and no table is read that would tell of it
         return Err(tell_hindered(rt, audience, paper_name(), &RunRefusal::Disk, closed));
     }
@@ -974,19 +1050,16 @@ fn operate_talk<'a, R: Runtime<A = Global, File = File>>(
     rt: &'a R,
     audience: Audience,
     open: &Open<'a>,
-    held: Held,
+    held: &Option<Held>,
 ) -> Status {
-    match may_talk(rt, audience, open, &held) {
-        Ok(closed) => {
-            let _held = hold_of(held, open.talk);
-            talk_over_journal(rt, audience, open, closed)
-        }
+    match may_talk(rt, audience, open, held) {
+        Ok(closed) => talk_over_journal(rt, audience, open, closed),
         Err(status) => status,
     }
 }
 
 /// Whether of a conversation only an empty journal stands.
-fn is_left_empty<R: Runtime<A = Global>>(rt: &R, names: &Names) -> bool {
+fn is_left_empty<R: Runtime<A = Global, File = File>>(rt: &R, names: &Names) -> bool {
     let empty = match fs::symlink_metadata(rt, names.journal.as_str()) {
         Ok(data) => data.is_file() && data.len() == 0,
         Err(_) => false,
@@ -995,7 +1068,11 @@ fn is_left_empty<R: Runtime<A = Global>>(rt: &R, names: &Names) -> bool {
 }
 
 /// Whether a conversation was begun where the file system knows no locks, by the text of its beginning.
-fn began_unlocked<R: Runtime<A = Global>>(rt: &R, audience: Audience, names: &Names) -> bool {
+fn began_unlocked<R: Runtime<A = Global, File = File>>(
+    rt: &R,
+    audience: Audience,
+    names: &Names,
+) -> bool {
     let mut folder = folder(rt, audience);
     let Ok(bytes) = folder.read(rt.alloc(), names.begun.as_str(), FILE_LIMIT) else {
         return false;
@@ -1009,20 +1086,31 @@ fn began_unlocked<R: Runtime<A = Global>>(rt: &R, audience: Audience, names: &Na
     }
 }
 
-/// The text of the beginning of a conversation that is to go on, or what is told where it doesn't.
-fn said_of<R: Runtime<A = Global>>(
+/// Finishes the save that a note tells of, for a conversation that is to go on.
+fn finish_begun<R: Runtime<A = Global, File = File>>(
     rt: &R,
     audience: Audience,
     names: &Names,
-    held: &Held,
+) -> Status {
+    let held = take_folder(rt, began_unlocked(rt, audience, names));
+    let status = match &held {
+        Held::LockFile => tell_lock_file(rt, audience),
+        held => finish_noted(rt, audience, names, hindered(held)),
+    };
+    let_go(rt, held);
+    status
+}
+
+/// The text of the beginning of a conversation that is to go on, or what is told where it doesn't.
+fn said_of<R: Runtime<A = Global, File = File>>(
+    rt: &R,
+    audience: Audience,
+    names: &Names,
 ) -> Result<JournalPaper, Status> {
     let found = found_of(rt, names);
     match next_of(found, true) {
         Next::GoOn => read_begun(rt, audience, names),
-        Next::Finish => {
-            let hindrance = hindered(held, began_unlocked(rt, audience, names));
-            Err(finish_noted(rt, audience, names, hindrance))
-        }
+        Next::Finish => Err(finish_begun(rt, audience, names)),
         next => Err(tell_next(rt, audience, names, found, next)),
     }
 }
@@ -1033,9 +1121,8 @@ fn go_on<'a, R: Runtime<A = Global, File = File>>(
     audience: Audience,
     words: &'a OperateWords<'a>,
     names: &'a Names,
-    held: Held,
 ) -> Result<Status, WordsFault> {
-    let said = match said_of(rt, audience, names, &held) {
+    let said = match said_of(rt, audience, names) {
         Ok(said) => said,
         Err(status) => return Ok(status),
     };
@@ -1045,7 +1132,7 @@ fn go_on<'a, R: Runtime<A = Global, File = File>>(
     if is_backup(words.shown.screens, backup_of(&talk)) {
         return Err(WordsFault::Screens);
     }
-    Ok(begin(rt, audience, words, names, &talk, Some(&said), held))
+    Ok(begin(rt, audience, words, names, &talk, Some(&said)))
 }
 
 /// Begins a conversation, or takes one up again of which the text of its beginning is given.
@@ -1056,7 +1143,6 @@ fn begin<'a, R: Runtime<A = Global, File = File>>(
     names: &'a Names,
     talk: &'a Talk,
     said: Option<&'a JournalPaper>,
-    held: Held,
 ) -> Status {
     let sums = RefCell::new(Vec::new(rt.alloc()));
     let open = Open {
@@ -1068,7 +1154,10 @@ fn begin<'a, R: Runtime<A = Global, File = File>>(
         said,
         sums: &sums,
     };
-    operate_talk(rt, audience, &open, held)
+    let held = folder_for(rt, talk.save.is_some(), talk.no_lock());
+    let status = operate_talk(rt, audience, &open, &held);
+    leave_folder(rt, held);
+    status
 }
 
 /// Whether the folder for copies has the name of a file of the conversation.
@@ -1095,7 +1184,7 @@ fn begin_asked<R: Runtime<A = Global, File = File>>(
     asked: &TalkWords<'_>,
     names: &Names,
 ) -> Result<Status, WordsFault> {
-    may_back_up(rt, asked.tables)?;
+    may_back_up(rt, asked.tables, words.code)?;
     if is_copied_over(asked, names, words.shown.screens) {
         return Err(WordsFault::Backup);
     }
@@ -1103,11 +1192,8 @@ fn begin_asked<R: Runtime<A = Global, File = File>>(
         return Err(WordsFault::Zone);
     };
     match talk_of(rt.alloc(), audience, asked, day) {
-        Ok(talk) => {
-            let held = take_folder(rt);
-            Ok(begin(rt, audience, words, names, &talk, None, held))
-        }
-        Err(_) => Ok(refuse(rt, Refusal::Memory)),
+        Ok(talk) => Ok(begin(rt, audience, words, names, &talk, None)),
+        Err(_) => Ok(refuse(rt, audience, Refusal::Memory)),
     }
 }
 
@@ -1123,7 +1209,7 @@ fn operate_named<R: Runtime<A = Global, File = File>>(
     }
     match &words.talk {
         Some(asked) => begin_asked(rt, audience, words, asked, names),
-        None => go_on(rt, audience, words, names, take_folder(rt)),
+        None => go_on(rt, audience, words, names),
     }
 }
 
@@ -1136,6 +1222,6 @@ pub fn operate<R: Runtime<A = Global, File = File>>(
     match names_of(rt.alloc(), words) {
         Ok(Some(names)) => operate_named(rt, audience, words, &names),
         Ok(None) => Err(WordsFault::Journal),
-        Err(_) => Ok(refuse(rt, Refusal::Memory)),
+        Err(_) => Ok(refuse(rt, audience, Refusal::Memory)),
     }
 }

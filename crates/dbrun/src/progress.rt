@@ -8,6 +8,7 @@ use run_commands::{
 };
 use std::alloc::Global;
 use std::fmt::{self, Display, Formatter, Write};
+use std::fs::File;
 use std::rt::Runtime;
 use std::time::{Duration, Instant};
 
@@ -32,7 +33,7 @@ pub struct Meter<'a, R> {
     is_shown: bool,
 }
 
-impl<'a, R: Runtime<A = Global>> Meter<'a, R> {
+impl<'a, R: Runtime<A = Global, File = File>> Meter<'a, R> {
     /// Before a run begins.
     pub fn new(rt: &'a R, audience: Audience) -> Meter<'a, R> {
         Meter {
@@ -68,7 +69,7 @@ impl<'a, R: Runtime<A = Global>> Meter<'a, R> {
     }
 }
 
-impl<R: Runtime<A = Global>> Watcher for Meter<'_, R> {
+impl<R: Runtime<A = Global, File = File>> Watcher for Meter<'_, R> {
     fn hear(&mut self, steps: u64, budget: u64) -> u64 {
         if !self.audience.person {
             return budget;
@@ -123,7 +124,7 @@ impl Display for Grouped {
 }
 
 /// Runs a code as `run_files` does; a person is told how far it has come.
-pub fn run_told<F: Files, R: Runtime<A = Global>>(
+pub fn run_told<F: Files, R: Runtime<A = Global, File = File>>(
     rt: &R,
     audience: Audience,
     files: &mut F,
@@ -136,7 +137,7 @@ pub fn run_told<F: Files, R: Runtime<A = Global>>(
 }
 
 /// Rehearses a code as `rehearse_files` does; a person is told how far it has come.
-pub fn rehearse_told<F: Files, R: Runtime<A = Global>>(
+pub fn rehearse_told<F: Files, R: Runtime<A = Global, File = File>>(
     rt: &R,
     audience: Audience,
     files: &mut F,

@@ -29,7 +29,7 @@ pub fn is_free_name(name: &str, code: &str) -> bool {
 
 /// Whether a new file of this name harms nothing, and none of this name stands yet, nor what tells of a conversation
 /// with such a journal. Where memory is refused, no name is taken for a new one.
-pub fn is_new_name<R: Runtime<A = Global>>(rt: &R, name: &str, code: &str) -> bool {
+pub fn is_new_name<R: Runtime<A = Global, File = File>>(rt: &R, name: &str, code: &str) -> bool {
     is_free_name(name, code) && !stands(rt, name) && matches!(is_recorded(rt, name), Ok(false))
 }
 
@@ -48,7 +48,10 @@ pub fn is_backup(screens: Option<&str>, backup: Option<&str>) -> bool {
 }
 
 /// Refuses a file for screens that stands, or that the run uses, and one of the name of the folder for copies.
-pub fn may_show<R: Runtime<A = Global>>(rt: &R, words: &RunWords<'_>) -> Result<(), WordsFault> {
+pub fn may_show<R: Runtime<A = Global, File = File>>(
+    rt: &R,
+    words: &RunWords<'_>,
+) -> Result<(), WordsFault> {
     let Some(name) = words.screens else {
         return Ok(());
     };
@@ -63,7 +66,7 @@ pub fn may_show<R: Runtime<A = Global>>(rt: &R, words: &RunWords<'_>) -> Result<
 
 /// Who types the lines of a job and writes the screens before them to a new file of this name. A person is told how far
 /// the run has come. Want of memory is told here, and its status given.
-fn typist_of<'a, R: Runtime<A = Global>>(
+fn typist_of<'a, R: Runtime<A = Global, File = File>>(
     rt: &'a R,
     audience: Audience,
     job: &Job<'a>,
@@ -74,7 +77,7 @@ fn typist_of<'a, R: Runtime<A = Global>>(
             let (screens, meter) = (Screens::to(Some(name)), Meter::new(rt, audience));
             Ok(Typist::of(rt, job.input, screens, meter))
         }
-        Err(_) => Err(refuse(rt, Refusal::Memory)),
+        Err(_) => Err(refuse(rt, audience, Refusal::Memory)),
     }
 }
 
@@ -94,19 +97,24 @@ fn untyped<'a>(job: &Job<'a>) -> Job<'a>
 }
 
 /// Tells why a run whose screens are kept came to no end.
-fn tell_stopped(rt: &impl Runtime, screens: &str, why: Broken) -> Status {
+fn tell_stopped(rt: &impl Runtime, audience: Audience, screens: &str, why: Broken) -> Status {
     match why {
         Broken::Line => {
             let _ = eprintln!(rt; "refused - TooLong");
             Status::Refused
         }
-        Broken::Memory => refuse(rt, Refusal::Memory),
-        Broken::Operator | Broken::Journal => refuse(rt, Refusal::Disk { name: screens }),
+        Broken::Memory => refuse(rt, audience, Refusal::Memory),
+        Broken::Operator | Broken::Journal => refuse(rt, audience, Refusal::Disk { name: screens }),
     }
 }
 
 /// What a run reports whose screens were kept.
-fn report_of(rt: &impl Runtime, screens: &str, told: OperationReport) -> Result<Report, Status> {
+fn report_of(
+    rt: &impl Runtime,
+    audience: Audience,
+    screens: &str,
+    told: OperationReport,
+) -> Result<Report, Status> {
     let OperationReport { rows, result } = told;
     match result {
         Ok(ended) => Ok(Report {
@@ -117,8 +125,8 @@ fn report_of(rt: &impl Runtime, screens: &str, told: OperationReport) -> Result<
             rows,
             result: Err(refusal),
         }),
-        Err(OperateRefusal::Broke(why)) => Err(tell_stopped(rt, screens, why)),
-        Err(OperateRefusal::Handed) => Err(tell_stopped(rt, screens, Broken::Line)),
+        Err(OperateRefusal::Broke(why)) => Err(tell_stopped(rt, audience, screens, why)),
+        Err(OperateRefusal::Handed) => Err(tell_stopped(rt, audience, screens, Broken::Line)),
     }
 }
 
@@ -140,20 +148,21 @@ pub fn run_shown<R: Runtime<A = Global, File = File>, F: Files>(
     let mut taken = TakenLines::new(alloc);
     let told = operate_files(alloc, files, &job, MOST_GIVEN, &mut taken, &mut typist);
     typist.watcher().end();
-    report_of(rt, name, told)
+    report_of(rt, audience, name, told)
 }
 
 /// Tells why nothing was rehearsed.
 fn tell_unrehearsed(
     rt: &impl Runtime,
+    audience: Audience,
     name: &str,
     screens: &str,
     refusal: &OperateRefusal,
 ) -> Status {
     match refusal {
-        OperateRefusal::Run(refusal) => tell_refusal(rt, name, refusal),
-        OperateRefusal::Broke(why) => tell_stopped(rt, screens, *why),
-        OperateRefusal::Handed => tell_stopped(rt, screens, Broken::Line),
+        OperateRefusal::Run(refusal) => tell_refusal(rt, audience, name, refusal),
+        OperateRefusal::Broke(why) => tell_stopped(rt, audience, screens, *why),
+        OperateRefusal::Handed => tell_stopped(rt, audience, screens, Broken::Line),
     }
 }
 
@@ -170,7 +179,7 @@ pub fn rehearse_shown<R: Runtime<A = Global, File = File>, F: Files>(
     let Some(name) = screens else {
         return match rehearse_told(rt, audience, files, job) {
             Ok(told) => Ok(told),
-            Err(refusal) => Err(tell_refusal(rt, job.name, &refusal)),
+            Err(refusal) => Err(tell_refusal(rt, audience, job.name, &refusal)),
         };
     };
     let mut typist = typist_of(rt, audience, job, name)?;
@@ -180,6 +189,6 @@ pub fn rehearse_shown<R: Runtime<A = Global, File = File>, F: Files>(
     typist.watcher().end();
     match told {
         Ok(told) => Ok(told),
-        Err(refusal) => Err(tell_unrehearsed(rt, job.name, name, &refusal)),
+        Err(refusal) => Err(tell_unrehearsed(rt, audience, job.name, name, &refusal)),
     }
 }

@@ -1,5 +1,6 @@
 //! What a person at a terminal is shown beside what the program says.
 
+use crate::escaped::Escaped;
 use compile_commands::{CompileFilesRefusal, CompileWords, SourceFault};
 use file_access::Files;
 use folder_files::{Doing, FileSum, Harm, Hindrance, Listener, Sum, Unreplaced, sum_of};
@@ -60,7 +61,9 @@ impl<R: Eprint + Alloc<A = Global>> Listener for Progress<'_, R> {
                 Doing::Reading => "reading",
                 Doing::Writing => "writing",
             };
-            let _ = eprintln!(self.rt; "{doing} {name}");
+            let what = &name;
+            let at_terminal = true;
+            let _ = eprintln!(self.rt; "{doing} {}", Escaped { what, at_terminal });
         }
     }
 
@@ -268,6 +271,8 @@ impl Display for PrintableLine<'_> {
 pub fn why_hindered(hindrance: Hindrance) -> &'static str {
     match hindrance {
         Hindrance::Taken => "another run has the folder",
+        Hindrance::LockFile =>
+            "a run holds this folder, or was ended in it; when none is left, dbrun forget removes the file",
         Hindrance::NoLocks => "this file system knows no locks; --no-lock saves without one",
         Hindrance::Closed => "the folder can't be read",
         Hindrance::NoRoom => "no file can be made in this folder",
@@ -300,6 +305,24 @@ impl Display for NameTold<'_> {
             f.write_char(if letter.is_control() { '?' } else { letter })?;
         }
         Ok(())
+    }
+}
+
+/// The same of a name in the record of a save, as a terminal is sent it if it goes to one.
+#[derive(Clone, Copy)]
+pub struct RecordedName<'a> {
+    pub name: &'a str,
+    pub audience: Audience,
+}
+
+impl Display for RecordedName<'_> {
+    fn fmt<W: Write>(&self, f: &mut Formatter<W>) -> fmt::Result {
+        if !self.audience.person {
+            return write!(f, "{}", NameTold(self.name));
+        }
+        let what = &self.name;
+        let at_terminal = true;
+        write!(f, "{}", Escaped { what, at_terminal })
     }
 }
 

@@ -63,6 +63,7 @@ HindersPlan hindrance.Draft = ⊤
 HindersPlan hindrance.NoRoom = ⊤
 HindersPlan hindrance.Taken = ⊥
 HindersPlan hindrance.NoLocks = ⊥
+HindersPlan hindrance.LockFile = ⊥
 HindersPlan hindrance.Closed = ⊥
 HindersPlan (hindrance.Harm harm) = ⊥
 HindersPlan hindrance.Frozen = ⊥

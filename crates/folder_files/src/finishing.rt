@@ -5,11 +5,13 @@ ghost use Rattle.std.specs.Prelude.{◌≡◌, true, codes, IfErr, IfOk, IfSome}
 ghost use Rattle.save_rules.specs.Rules.{is_in_folder as is_name};
 ghost use Rattle.folder_files.specs.Unfinished.{TellsOfFolder};
 
-use crate::disk::{remove_if_there, sum_of_file, sync_folder};
+use crate::disk::{Summed, remove_if_there, sum_of_file, sync_folder};
+use crate::opening::is_other_than_plain;
 use crate::papers::{PAPER, PaperFault, found_paper, remove_draft, remove_paper};
+use crate::recorded::may_be_written;
 use save_papers::{PaperEntry, SavePaper};
 use save_rules::{is_beside, is_in_folder};
-use save_steps::{Paper, Slot, Step, first_foreign, slot_of, steps_of_finish};
+use save_steps::{Paper, Slot, Step, Sum, first_foreign, slot_of, steps_of_finish};
 use std::alloc::{Alloc, Global};
 use std::rt::Files as Disk;
 use std::{fs, str};
@@ -89,21 +91,43 @@ fn changed_at(alloc: Global, name: &str) -> UnfinishedSave
     }
 }
 
-/// What stands at a file that a note names.
+/// The checksum of a file; none if it is longer than any that a save writes. The checksum of no file is none too.
+fn known_sum(summed: Summed) -> Option<Option<Sum>> {
+    match summed {
+        Summed::Absent => Some(None),
+        Summed::Sum(sum) => Some(Some(sum)),
+        Summed::Long => None,
+    }
+}
+
+/// What stands at a file that a note names, by these checksums of it and of its new file.
+fn slot_by(target: Summed, new: Summed, entry: &PaperEntry) -> Slot {
+    match (known_sum(target), known_sum(new)) {
+        (Some(target), Some(new)) => slot_of(target, new, entry.old, entry.new),
+        _ => Slot::Foreign,
+    }
+}
+
+/// What stands at a file that a note names. A save writes plain files without further names, so anything else counts as
+/// changed by another program.
 fn slot_at<R: Disk + Alloc<A = Global>>(rt: &R, entry: &PaperEntry) -> Result<Slot, UnfinishedSave>
     ensures { IfErr result TellsOfFolder }
 {
     let (name, beside) = names_in(entry)?;
+    if is_other_than_plain(rt, name) || is_other_than_plain(rt, beside) {
+        return Ok(Slot::Foreign);
+    }
     let Ok(target) = sum_of_file(rt, name) else {
         return Err(disk_at(rt.alloc(), name));
     };
     let Ok(new) = sum_of_file(rt, beside) else {
         return Err(disk_at(rt.alloc(), beside));
     };
-    Ok(slot_of(target, new, entry.old, entry.new))
+    Ok(slot_by(target, new, entry))
 }
 
-/// What stands at each file that a plan or a note names. A plan is taken away whatever stands there.
+/// What stands at each file that a plan or a note names. A plan is taken away whatever stands there. The first file that
+/// another program changed is the last one that is looked at, because nothing is done then.
 fn slots_of<R: Disk + Alloc<A = Global>>(
     rt: &R,
     paper: &SavePaper,
@@ -119,6 +143,9 @@ fn slots_of<R: Disk + Alloc<A = Global>>(
         };
         if slots.push(slot).is_err() {
             return Err(UnfinishedSave::Memory);
+        }
+        if slot == Slot::Foreign {
+            break;
         }
     }
     Ok(slots)
@@ -140,7 +167,15 @@ fn at_file<R: Disk + Alloc<A = Global>>(
             if slot == Slot::Placed {
                 return Ok(());
             }
-            fs::rename(rt, beside, name)
+            if is_other_than_plain(rt, beside) {
+                return Err(disk_at(rt.alloc(), name));
+            }
+            match fs::rename(rt, beside, name) {
+                Ok(()) if is_other_than_plain(rt, name) => {
+                    return Err(disk_at(rt.alloc(), name));
+                }
+                done => done,
+            }
         }
         _ => return Ok(()),
     };
@@ -193,7 +228,8 @@ fn foreign_in(alloc: Global, paper: &SavePaper, slots: &[Slot]) -> UnfinishedSav
     }
 }
 
-/// Carries out the steps that finish a save, each behind the one before.
+/// Carries out the steps that finish a save, each after the one before. Once the plan or the note is removed, the save
+/// is at its end, also if the device fails to keep that: the next command then begins with a sync of the folder.
 fn carry_out_all<R: Disk + Alloc<A = Global>>(
     rt: &R,
     steps: &[Step],
@@ -202,8 +238,13 @@ fn carry_out_all<R: Disk + Alloc<A = Global>>(
 ) -> Result<FinishedSave, UnfinishedSave>
     ensures { IfErr result TellsOfFolder }
 {
+    let mut is_removed = false;
     for step in steps {
-        carry_out(rt, *step, paper, slots)?;
+        match carry_out(rt, *step, paper, slots) {
+            Ok(()) => is_removed |= *step == Step::RemovePaper,
+            Err(_) if is_removed => {}
+            Err(unfinished) => return Err(unfinished),
+        }
     }
     if paper.noted {
         Ok(FinishedSave::Behind)
@@ -212,19 +253,24 @@ fn carry_out_all<R: Disk + Alloc<A = Global>>(
     }
 }
 
-/// Finishes the save that a plan or a note tells of, with this at the files that it names.
+/// What tells of a save.
+fn sort_of(paper: &SavePaper) -> Paper {
+    if paper.noted {
+        Paper::Note
+    } else {
+        Paper::Plan
+    }
+}
+
+/// Finishes what a plan, a note or neither tells of, with this at the files that it names.
 fn finish_at<R: Disk + Alloc<A = Global>>(
     rt: &R,
+    sort: Paper,
     paper: &SavePaper,
     slots: &[Slot],
 ) -> Result<FinishedSave, UnfinishedSave>
     ensures { IfErr result TellsOfFolder }
 {
-    let sort = if paper.noted {
-        Paper::Note
-    } else {
-        Paper::Plan
-    };
     match steps_of_finish(rt.alloc(), sort, slots) {
         Ok(Some(steps)) => carry_out_all(rt, steps.as_slice(), paper, slots),
         Ok(None) => Err(foreign_in(rt.alloc(), paper, slots)),
@@ -232,15 +278,32 @@ fn finish_at<R: Disk + Alloc<A = Global>>(
     }
 }
 
-/// Finishes the save that a plan or a note tells of.
+/// Ends what was left of a save whose plan or note is gone.
+fn finish_without_paper<R: Disk + Alloc<A = Global>>(rt: &R) -> Result<FinishedSave, UnfinishedSave>
+    ensures { IfErr result TellsOfFolder }
+{
+    let none = SavePaper {
+        noted: false,
+        entries: Vec::new(rt.alloc()),
+    };
+    finish_at(rt, Paper::Absent, &none, &[])
+}
+
+/// Finishes the save that a plan or a note tells of, unless no save can have written it: then nothing is touched.
 fn finish_paper<R: Disk + Alloc<A = Global>>(
     rt: &R,
     paper: &SavePaper,
 ) -> Result<FinishedSave, UnfinishedSave>
     ensures { IfErr result TellsOfFolder }
 {
-    let slots = slots_of(rt, paper)?;
-    finish_at(rt, paper, slots.as_slice())
+    match may_be_written(rt, paper) {
+        Ok(true) => {
+            let slots = slots_of(rt, paper)?;
+            finish_at(rt, sort_of(paper), paper, slots.as_slice())
+        }
+        Ok(false) => Err(UnfinishedSave::Foreign),
+        Err(_) => Err(UnfinishedSave::Memory),
+    }
 }
 
 /// Why a save isn't finished whose plan or note isn't read.
@@ -254,6 +317,27 @@ fn unread(fault: PaperFault) -> UnfinishedSave
     }
 }
 
+/// Why the save that a plan or a note tells of wouldn't be finished, if that can be seen without touching anything.
+pub(crate) fn unfinishable<R: Disk + Alloc<A = Global>>(rt: &R) -> Option<UnfinishedSave> {
+    let paper = match found_paper(rt, rt.alloc()) {
+        Ok(found) => found?,
+        Err(fault) => return Some(unread(fault)),
+    };
+    match may_be_written(rt, &paper) {
+        Ok(true) => {}
+        Ok(false) => return Some(UnfinishedSave::Foreign),
+        Err(_) => return Some(UnfinishedSave::Memory),
+    }
+    match slots_of(rt, &paper) {
+        Ok(slots) if first_foreign(&slots).is_some() => {
+            Some(foreign_in(rt.alloc(), &paper, slots.as_slice()))
+        }
+        Ok(_) if paper.noted => Some(UnfinishedSave::PaperDisk),
+        Ok(_) => None,
+        Err(unfinished) => Some(unfinished),
+    }
+}
+
 /// Finishes the save that was cut off in the folder in which the program runs, if one was. A save that hadn't come to
 /// its note is taken away. One that had is carried to its end.
 ///
@@ -264,10 +348,7 @@ pub fn finish<R: Disk + Alloc<A = Global>>(rt: &R) -> Result<FinishedSave, Unfin
 {
     match found_paper(rt, rt.alloc()) {
         Ok(Some(paper)) => finish_paper(rt, &paper),
-        Ok(None) => match remove_draft(rt, rt.alloc()) {
-            Ok(()) => Ok(FinishedSave::Before),
-            Err(_) => Err(UnfinishedSave::PaperDisk),
-        },
+        Ok(None) => finish_without_paper(rt),
         Err(fault) => Err(unread(fault)),
     }
 }

@@ -1,16 +1,15 @@
 // Files of a folder of the disk.
 #![tactic(auto)]
 
-ghost use Rattle.std.specs.Prelude.{◌≡◌, ◌≤◌, None};
+ghost use Rattle.std.specs.Prelude.{◌≡◌, ◌≤◌, IfOk, None, length};
 ghost use Rattle.file_access.specs.Holding.{Rose};
 ghost use Rattle.folder_files.specs.Handed.{failures_of, why_unreplaced};
 
-use crate::papers::PAPER;
+use crate::opening::open_plain;
 use crate::replacing::{Unreplaced, replace_file};
 use file_access::{Device, Files, ReadFault, read_within};
-use save_rules::{Overwritten, overwritten_by};
 use std::alloc::{Alloc, AllocError, Global};
-use std::fs::{self, OpenFile};
+use std::fs::{File, OpenFile};
 use std::io::ErrorKind;
 use std::rt::Files as Disk;
 
@@ -64,17 +63,6 @@ pub struct Folder<'a, R, L> {
     unreplaced: Option<Unreplaced>,
 }
 
-/// Whether a folder, a device or a pipe stands under a table's or an index's name. To read a pipe is to wait for it.
-fn is_no_table<R: Disk>(rt: &R, name: &str) -> bool {
-    match overwritten_by(name, "", &[], PAPER, false) {
-        Some(Overwritten::Table | Overwritten::Index) => match fs::metadata(rt, name) {
-            Ok(data) => !data.is_file(),
-            Err(_) => false,
-        },
-        _ => false,
-    }
-}
-
 impl<'a, R: Disk + Alloc<A = Global>, L: Listener> Folder<'a, R, L> {
     /// The folder, with no failure counted yet.
     pub fn new(rt: &'a R, listener: L) -> Folder<'a, R, L>
@@ -107,28 +95,41 @@ impl<'a, R: Disk + Alloc<A = Global>, L: Listener> Folder<'a, R, L> {
     }
 }
 
-impl<R: Disk + Alloc<A = Global>, L: Listener> Files for Folder<'_, R, L> {
+/// The bytes of the plain file under a name. A listener hears that they are read.
+pub(crate) fn read_plain<R: Disk, L: Listener>(
+    rt: &R,
+    listener: &L,
+    alloc: Global,
+    name: &str,
+    limit: usize,
+) -> Result<Vec<u8>, ReadFault>
+    ensures { IfOk result (λ bytes. length bytes.items ≤ limit) }
+{
+    let mut file = match open_plain(rt, name) {
+        Ok(file) => file,
+        Err(error) => {
+            return match error.kind() {
+                ErrorKind::NotFound => Err(ReadFault::Absent),
+                _ => Err(ReadFault::Device),
+            };
+        }
+    };
+    if let Ok(size) = file.metadata().map(|data| data.len()) {
+        listener.hear(Doing::Reading, name, size);
+        if size > limit as u64 {
+            return Err(ReadFault::TooLong);
+        }
+    }
+    read_within(alloc, &mut file, limit)
+}
+
+impl<R: Disk<File = File> + Alloc<A = Global>, L: Listener> Files for Folder<'_, R, L> {
     ghost holds = { λ _ _ _. Unit {0} };
 
     ghost failed = { λ folder. folder.failures };
 
     fn read(&mut self, alloc: Global, name: &str, limit: usize) -> Result<Vec<u8>, ReadFault> {
-        if is_no_table(self.rt, name) {
-            return Err(self.fail());
-        }
-        let mut file = match fs::open(self.rt, name) {
-            Ok(file) => file,
-            Err(error) => {
-                return match error.kind() {
-                    ErrorKind::NotFound => Err(ReadFault::Absent),
-                    _ => Err(self.fail()),
-                };
-            }
-        };
-        if let Ok(size) = file.metadata().map(|data| data.len()) {
-            self.listener.hear(Doing::Reading, name, size);
-        }
-        match read_within(alloc, &mut file, limit) {
+        match read_plain(self.rt, &self.listener, alloc, name, limit) {
             Ok(bytes) => Ok(bytes),
             Err(ReadFault::Device) => Err(self.fail()),
             Err(ReadFault::Absent) => Err(ReadFault::Absent),

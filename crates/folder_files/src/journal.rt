@@ -2,16 +2,16 @@
 #![tactic(auto)]
 
 ghost use Rattle.std.specs.Prelude.{◌≡◌, ◌-◌, ◌+◌, ◌<◌, ◌≤◌, ◌^◌, ◌==◌, not, min, [], ℕ, List, IfErr, IfOk};
-ghost use Rattle.std.specs.Prelude.{MatchOption, OnErr, OnOk, length};
+ghost use Rattle.std.specs.Prelude.{IfSome, MatchOption, OnErr, OnOk, length};
 ghost use Rattle.std.specs.List.{suffix_len};
 ghost use Rattle.folder_files.specs.Journals.{HoldsLines, RefusesNew, bytes_in_front, bytes_counted, is_made_here};
 
 use crate::disk::{is_free, sync_folder};
+use crate::opening::identity_of;
 use file_access::{ReadFault, read_within};
 use std::alloc::{Alloc, Global};
 use std::fs::{self, File, OpenFile, OpenOptions, TryLockError};
 use std::io::{self, ErrorKind, Write};
-use std::os::unix::fs::MetadataExt;
 use std::rt::Files as Disk;
 
 /// The most bytes that a journal is read of: two for each byte that an operator may type for a run.
@@ -93,10 +93,10 @@ fn held(file: File, no_lock: bool) -> Result<File, JournalFault>
     }
 }
 
-/// Whether a name leads to a file itself, and by no link.
+/// Whether a name leads to a plain file itself, and by no link.
 fn leads_to<R: Disk>(rt: &R, name: &str, file: &File) -> bool {
     match (fs::symlink_metadata(rt, name), file.metadata()) {
-        (Ok(named), Ok(data)) => named.dev() == data.dev() && named.ino() == data.ino(),
+        (Ok(named), Ok(data)) => { data.is_file() && identity_of(&named) == identity_of(&data) }
         _ => false,
     }
 }
@@ -129,15 +129,20 @@ fn held_new<R: Disk>(rt: &R, name: &str, file: File, no_lock: bool) -> Result<Fi
     found
 }
 
-/// Whether a link stands under a name.
-fn is_link<R: Disk>(rt: &R, name: &str) -> bool {
+/// Why what is under a name can't be a journal, if it can't: a link counts as a file that exists, and a folder, a
+/// device or a pipe can't be read.
+fn barred<R: Disk>(rt: &R, name: &str) -> Option<JournalFault>
+    ensures { IfSome result RefusesNew }
+{
     match fs::symlink_metadata(rt, name) {
-        Ok(data) => data.is_symlink(),
-        Err(_) => false,
+        Ok(data) if data.is_symlink() => Some(JournalFault::Exists),
+        Ok(data) if !data.is_file() => Some(JournalFault::Disk),
+        _ => None,
     }
 }
 
-/// Opens a journal for lines at its end. A link counts as a file that stands.
+/// Opens a journal for lines at its end. It is opened for reading and writing, which doesn't wait for the other end of
+/// a pipe.
 fn opened<R: Disk<File = File>>(
     rt: &R,
     name: &str,
@@ -146,8 +151,8 @@ fn opened<R: Disk<File = File>>(
 ) -> Result<File, JournalFault>
     ensures { IfErr result RefusesNew }
 {
-    if is_link(rt, name) {
-        return Err(JournalFault::Exists);
+    if let Some(fault) = barred(rt, name) {
+        return Err(fault);
     }
     let mut options = OpenOptions::new();
     options.read(true);

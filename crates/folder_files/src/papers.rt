@@ -4,12 +4,13 @@
 ghost use Rattle.std.specs.Prelude.{IfSome};
 ghost use Rattle.folder_files.specs.Handed.{HindersPlan};
 
-use crate::disk::{is_free, remove_if_there, sync_folder, write_new};
+use crate::disk::{is_free, remove_if_there, remove_made, rename_made, sync_folder, write_new};
+use crate::opening::open_plain;
 use crate::targets::Hindrance;
 use file_access::{ReadFault, read_within};
 use save_papers::{PaperError, SavePaper, may_begin_paper, read, write};
 use std::alloc::{Alloc, Global};
-use std::fs;
+use std::fs::File;
 use std::io::{self, ErrorKind};
 use std::rt::Files as Disk;
 
@@ -36,15 +37,14 @@ pub(crate) enum Written {
 }
 
 /// Writes a plan or a note as a draft, down to the device, and puts it in its place.
-pub(crate) fn put_paper<R: Disk>(rt: &R, alloc: Global, paper: &SavePaper) -> Written {
+pub(crate) fn put_paper<R: Disk<File = File>>(rt: &R, alloc: Global, paper: &SavePaper) -> Written {
     let Ok(text) = write(alloc, paper) else {
         return Written::Memory;
     };
-    if write_new(rt, DRAFT, text.as_slice(), None).is_err() {
+    let Ok(made) = write_new(rt, DRAFT, text.as_slice(), None) else {
         return Written::Refused;
-    }
-    if fs::rename(rt, DRAFT, PAPER).is_err() {
-        let _ = fs::remove_file(rt, DRAFT);
+    };
+    if rename_made(rt, DRAFT, PAPER, made).is_err() {
         return Written::Refused;
     }
     if sync_folder(rt).is_err() {
@@ -66,7 +66,7 @@ pub(crate) enum PaperFault {
 
 /// The plan or the note that stands, if one does.
 pub(crate) fn found_paper<R: Disk>(rt: &R, alloc: Global) -> Result<Option<SavePaper>, PaperFault> {
-    let mut file = match fs::open(rt, PAPER) {
+    let mut file = match open_plain(rt, PAPER) {
         Ok(file) => file,
         Err(error) => {
             return match error.kind() {
@@ -102,20 +102,23 @@ pub fn save_stands(rt: &impl Disk) -> bool {
 }
 
 /// Why no save could begin in the folder, if none could: the file of a plan's draft is made there, and removed.
-pub fn hindered_plan<R: Disk>(rt: &R) -> Option<Hindrance>
+pub fn hindered_plan<R: Disk<File = File>>(rt: &R) -> Option<Hindrance>
     ensures { IfSome result HindersPlan }
 {
     if !is_free(rt, DRAFT) {
         return Some(Hindrance::Draft);
     }
-    if write_new(rt, DRAFT, &[], None).is_err() {
+    let Ok(made) = write_new(rt, DRAFT, &[], None) else {
         return Some(Hindrance::NoRoom);
-    }
+    };
+    remove_made(rt, DRAFT, made);
     // a removal that failed is tried again, so that nothing is left
-    if remove_if_there(rt, DRAFT).is_err() && remove_if_there(rt, DRAFT).is_err() {
-        return Some(Hindrance::NoRoom);
+    remove_made(rt, DRAFT, made);
+    if is_free(rt, DRAFT) {
+        None
+    } else {
+        Some(Hindrance::NoRoom)
     }
-    None
 }
 
 /// Removes the plan or the note.
@@ -123,13 +126,15 @@ pub(crate) fn remove_paper<R: Disk>(rt: &R) -> io::Result<()> {
     remove_if_there(rt, PAPER)
 }
 
-/// What stands of a draft, if one does.
+/// Whether there is a draft, and it is one of this program's; none if there is none. What isn't a plain file is another
+/// program's.
 fn found_draft<R: Disk>(rt: &R, alloc: Global) -> io::Result<Option<bool>> {
-    let mut file = match fs::open(rt, DRAFT) {
+    let mut file = match open_plain(rt, DRAFT) {
         Ok(file) => file,
         Err(error) => {
             return match error.kind() {
                 ErrorKind::NotFound => Ok(None),
+                ErrorKind::InvalidInput => Ok(Some(false)),
                 _ => Err(error),
             };
         }
@@ -138,6 +143,11 @@ fn found_draft<R: Disk>(rt: &R, alloc: Global) -> io::Result<Option<bool>> {
         Ok(bytes) => Ok(Some(may_begin_paper(bytes.as_slice()))),
         Err(_) => Ok(Some(false)),
     }
+}
+
+/// Whether another program's file is under the name of a draft.
+pub(crate) fn foreign_draft_stands<R: Disk>(rt: &R, alloc: Global) -> bool {
+    matches!(found_draft(rt, alloc), Ok(Some(false)))
 }
 
 /// Removes a draft, if there is one; another program's file of that name stays.

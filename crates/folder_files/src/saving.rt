@@ -6,21 +6,24 @@ ghost use Rattle.file_access.specs.Holding.{Rose};
 ghost use Rattle.folder_files.specs.Handed.{FailsBelow, count_handed, failures_behind, failures_of, name_handed};
 ghost use Rattle.folder_files.specs.Handed.{sum_told, sums_to_be, why_unread};
 
-use crate::backup::{copy_bytes, copy_file, make_folder};
+use crate::backup::{copy_bytes, make_folder, sync_copies};
 use crate::disk::{
-    fresh_name, holds, remove_if_there, sum_of_file, sync_folder, sync_path, write_beside,
+    Old, Summed, fresh_name, holds, remove_made, sum_of_file, sync_folder, write_new,
 };
 use crate::folder::{Doing, Folder, Listener};
+use crate::opening::{Identity, is_still};
 use crate::papers::{Written, put_paper, remove_draft, remove_paper};
 use crate::targets::{Hindrance, Target, target_of};
 use crate::user::Who;
 use file_access::{Device, Files, ReadFault};
 use journal_papers::FileSum;
 use save_papers::{PaperEntry, SavePaper, sum_of};
+use save_rules::{HandedIn, files_replaced};
 use save_steps::{Paper, Slot, Step, Sum, steps_of_finish, steps_of_save};
 use std::alloc::{Alloc, AllocError, Global};
+use std::fs::{self, File, Metadata};
+use std::io::{self, ErrorKind};
 use std::rt::Files as Disk;
-use std::{fs, io};
 
 /// A file that was read: its name, what stands under it, and what it held, none where there was no such file.
 #[derive(Drop)]
@@ -43,12 +46,12 @@ struct Pending {
 pub struct SaveTerms<'a> {
     /// Why no table may be read, if none may.
     pub closed: Option<Hindrance>,
-    /// Whether tables are to be saved: then those that couldn't be replaced aren't read.
-    pub saves: bool,
     /// Whether a new file is the user's where it can't be given to the old one's owner and group.
     pub takes_over: bool,
     /// The folder to which all that is replaced is copied first.
     pub backup: Option<&'a str>,
+    /// Whether files stay whose records, or keys, are those that were read.
+    pub keep_unchanged: bool,
 }
 
 /// Why files aren't replaced, or not all of them. A file goes by its number in the order in which they were handed in.
@@ -87,13 +90,13 @@ struct Progress {
     files: Vec<usize>,
     /// The names of the new files.
     besides: Vec<String>,
-    /// How many new files stand.
-    made: usize,
+    /// Which files the new ones are that were made, in the order of the plan.
+    made: Vec<Identity>,
     /// Whether the note may stand.
     noted: bool,
 }
 
-impl<'a, R: Disk + Alloc<A = Global>, L: Listener> SavingFolder<'a, R, L> {
+impl<'a, R: Disk<File = File> + Alloc<A = Global>, L: Listener> SavingFolder<'a, R, L> {
     /// The folder, of which nothing was read yet and nothing is to be replaced. To read a table or an index that
     /// couldn't be saved on these terms is a failure of the device.
     pub fn new(folder: Folder<'a, R, L>, terms: SaveTerms<'a>) -> SavingFolder<'a, R, L>
@@ -148,7 +151,7 @@ impl<'a, R: Disk + Alloc<A = Global>, L: Listener> SavingFolder<'a, R, L> {
     fn was_read(&self, target: &Target) -> bool {
         self.loaded.iter().any(|loaded| {
             loaded.target.name.as_str() == target.name.as_str()
-                || (target.file.is_some() && loaded.target.file == target.file)
+                || (target.found.is_some() && loaded.target.identity() == target.identity())
         })
     }
 
@@ -157,15 +160,14 @@ impl<'a, R: Disk + Alloc<A = Global>, L: Listener> SavingFolder<'a, R, L> {
         if let Some(closed) = self.terms.closed {
             return Err(closed);
         }
-        let takes_over = self.terms.takes_over || !self.terms.saves;
-        let target = target_of(self.folder.rt, name, &self.who, takes_over)?;
+        let target = target_of(self.folder.rt, name, &self.who, self.terms.takes_over)?;
         if self.was_read(&target) {
             return Err(Hindrance::Twice);
         }
         Ok(target)
     }
 
-    /// Remembers what a file held when it was read. Only a save asks for its bytes again.
+    /// Remembers what a file held when it was read, because a save compares it with what the file holds then.
     fn note(&mut self, name: &str, target: Target, held: Option<&[u8]>) -> Result<(), AllocError>
         ensures { self.new.folder.failures ≡ self.old.folder.failures }
     {
@@ -173,8 +175,8 @@ impl<'a, R: Disk + Alloc<A = Global>, L: Listener> SavingFolder<'a, R, L> {
         let alloc = self.folder.rt.alloc();
         let name = String::from_str(alloc, name)?;
         let bytes = match held {
-            Some(held) if self.terms.saves => Some(Vec::from_slice(alloc, held)?),
-            _ => None,
+            Some(held) => Some(Vec::from_slice(alloc, held)?),
+            None => None,
         };
         self.loaded.push(Loaded {
             name,
@@ -232,11 +234,36 @@ impl<'a, R: Disk + Alloc<A = Global>, L: Listener> SavingFolder<'a, R, L> {
         String::from_str(alloc, name)
     }
 
+    /// What a file is to hold that gets these bytes: what it held when it was read, if the terms say that files stay
+    /// whose records or keys the program didn't change, and this is one.
+    fn to_hold(&self, name: &str, bytes: Vec<u8>) -> Result<Vec<u8>, AllocError> {
+        let Some(
+            Loaded {
+                bytes: Some(read),
+                ..
+            },
+        ) = self.loaded(name)
+        else {
+            return Ok(bytes);
+        };
+        let alloc = self.folder.rt.alloc();
+        let file = HandedIn {
+            name: name.as_bytes(),
+            read: Some(read.as_slice()),
+            new: bytes.as_slice(),
+        };
+        if files_replaced(alloc, &[file], self.terms.keep_unchanged)?.is_empty() {
+            return read.clone();
+        }
+        Ok(bytes)
+    }
+
     /// Remembers what a file is to hold.
     fn hand_in(&mut self, name: &str, bytes: Vec<u8>) -> Result<(), AllocError>
         ensures { self.new.folder.failures ≡ self.old.folder.failures }
     {
         let alloc = self.folder.rt.alloc();
+        let bytes = self.to_hold(name, bytes)?;
         let target = self.target_name(name)?;
         let name = String::from_str(alloc, name)?;
         self.pending.push(Pending {
@@ -254,24 +281,39 @@ impl<'a, R: Disk + Alloc<A = Global>, L: Listener> SavingFolder<'a, R, L> {
             .find(|loaded| loaded.name.as_str() == name)
     }
 
-    /// Whether a file is to hold other bytes than it held when it was read.
-    fn is_changed(&self, pending: &Pending) -> bool {
-        match self.loaded(pending.name.as_str()) {
+    /// What the file of that name held when it was read; none if there was no such file, or it wasn't read.
+    fn read_of(&self, name: &str) -> Option<&[u8]> {
+        match self.loaded(name) {
             Some(
                 Loaded {
-                    bytes: Some(held),
+                    bytes: Some(read),
                     ..
                 },
-            ) => held.as_slice() != pending.bytes.as_slice(),
-            _ => true,
+            ) => Some(read.as_slice()),
+            _ => None,
         }
     }
 
-    /// The sum of what a file held when it was read, or of what it holds now where it wasn't.
+    /// The files that are to be replaced, by their numbers among those that were handed in.
+    fn replaced(&self) -> Result<Vec<usize>, AllocError> {
+        let alloc = self.folder.rt.alloc();
+        let mut files = Vec::new(alloc);
+        for pending in &self.pending {
+            files.push(HandedIn {
+                name: pending.name.as_bytes(),
+                read: self.read_of(pending.name.as_str()),
+                new: pending.bytes.as_slice(),
+            })?;
+        }
+        files_replaced(alloc, files.as_slice(), self.terms.keep_unchanged)
+    }
+
+    /// The checksum of what a file held when it was read, or of what it holds now if it wasn't. A file that is longer
+    /// than any that a save writes can't be replaced.
     fn old_sum(&self, pending: &Pending) -> io::Result<Option<Sum>> {
         match self.loaded(pending.name.as_str()) {
             Some(Loaded { bytes, .. }) => Ok(bytes.as_ref().map(|held| sum_of(held.as_slice()))),
-            None => sum_of_file(self.folder.rt, pending.target.as_str()),
+            None => sum_now(self.folder.rt, pending.target.as_str()),
         }
     }
 
@@ -334,12 +376,15 @@ impl<'a, R: Disk + Alloc<A = Global>, L: Listener> SavingFolder<'a, R, L> {
             },
             files: Vec::new(alloc),
             besides: Vec::new(alloc),
-            made: 0,
+            made: Vec::new(alloc),
             noted: false,
         };
-        for (file, pending) in self.pending.iter().enumerate() {
-            if self.is_changed(pending) {
-                self.plan_file(file, pending, &mut progress)?;
+        let Ok(replaced) = self.replaced() else {
+            return Err(Unsaved::Memory);
+        };
+        for file in &replaced {
+            if let Some(pending) = self.pending.get(*file) {
+                self.plan_file(*file, pending, &mut progress)?;
             }
         }
         Ok(progress)
@@ -377,22 +422,66 @@ impl<'a, R: Disk + Alloc<A = Global>, L: Listener> SavingFolder<'a, R, L> {
         Some((file, pending, beside.as_str()))
     }
 
-    /// Makes the new file beside a file of the plan.
-    fn make(&self, place: usize, progress: &mut Progress) -> Result<(), Unsaved>
+    /// Makes the new file beside a file of the plan, and returns which file it is; none if there is no such file.
+    fn new_file(&self, place: usize, progress: &Progress) -> Result<Option<Identity>, Unsaved>
         ensures { IfErr result (FailsBelow (count_handed self.now)) }
     {
         let Some((file, pending, beside)) = self.planned(place, progress) else {
-            return Ok(());
+            return Ok(None);
         };
         let name = pending.name.as_str();
         let size = pending.bytes.len() as u64;
         self.folder.listener.hear(Doing::Writing, name, size);
-        let (target, bytes) = (pending.target.as_str(), pending.bytes.as_slice());
-        let taken_over = self.terms.takes_over;
-        if write_beside(self.folder.rt, target, beside, bytes, taken_over).is_err() {
-            return Err(Unsaved::Disk { file });
+        let old = self.found(name).map(|data| Old {
+            data,
+            taken_over: self.terms.takes_over,
+        });
+        match write_new(self.folder.rt, beside, pending.bytes.as_slice(), old) {
+            Ok(made) => Ok(Some(made)),
+            Err(_) => Err(Unsaved::Disk { file }),
         }
-        progress.made = place.saturating_add(1);
+    }
+
+    /// Makes the new file beside a file of the plan, and remembers which file it is.
+    fn make(&self, place: usize, progress: &mut Progress) -> Result<(), Unsaved>
+        ensures { IfErr result (FailsBelow (count_handed self.now)) }
+    {
+        let Some(made) = self.new_file(place, progress)? else {
+            return Ok(());
+        };
+        if progress.made.push(made).is_err() {
+            self.remove_new(place, made, progress);
+            return Err(Unsaved::Memory);
+        }
+        Ok(())
+    }
+
+    /// Removes a new file that was made. What another program put under its name stays.
+    fn remove_new(&self, place: usize, made: Identity, progress: &Progress) {
+        if let Some((_, _, beside)) = self.planned(place, progress) {
+            remove_made(self.folder.rt, beside, made);
+        }
+    }
+
+    /// Refuses a new file beside a file of the plan under whose name another program put something else.
+    fn look_at_new(&self, place: usize, progress: &Progress) -> Result<(), Unsaved>
+        ensures { IfErr result (FailsBelow (count_handed self.now)) }
+    {
+        match (self.planned(place, progress), progress.made.get(place)) {
+            (Some((file, _, beside)), Some(made)) => {
+                still(file, Ok(is_still(self.folder.rt, beside, *made)))
+            }
+            _ => Ok(()),
+        }
+    }
+
+    /// The same of all new files.
+    fn look_at_all_new(&self, progress: &Progress) -> Result<(), Unsaved>
+        ensures { IfErr result (FailsBelow (count_handed self.now)) }
+    {
+        for place in 0..progress.files.len() {
+            self.look_at_new(place, progress)?;
+        }
         Ok(())
     }
 
@@ -411,7 +500,7 @@ impl<'a, R: Disk + Alloc<A = Global>, L: Listener> SavingFolder<'a, R, L> {
     fn is_as_planned(&self, pending: &Pending, old: Option<Sum>) -> io::Result<bool> {
         match self.loaded(pending.name.as_str()) {
             Some(_) => Ok(true),
-            None => Ok(sum_of_file(self.folder.rt, pending.target.as_str())? == old),
+            None => Ok(sum_now(self.folder.rt, pending.target.as_str())? == old),
         }
     }
 
@@ -440,30 +529,32 @@ impl<'a, R: Disk + Alloc<A = Global>, L: Listener> SavingFolder<'a, R, L> {
         Ok(())
     }
 
-    /// Puts a new file in its file's place.
+    /// Puts a new file in its file's place, if it is still the one that was made. It stays beside its file if that
+    /// fails, because what comes next finishes the save.
     fn place(&self, place: usize, progress: &Progress) -> Result<(), Unsaved>
         ensures { IfErr result (FailsBelow (count_handed self.now)) }
     {
         let Some((file, pending, beside)) = self.planned(place, progress) else {
             return Ok(());
         };
-        if fs::rename(self.folder.rt, beside, pending.target.as_str()).is_err() {
+        let (rt, target) = (self.folder.rt, pending.target.as_str());
+        let Some(made) = progress.made.get(place) else {
+            return Err(Unsaved::Disk { file });
+        };
+        if !is_still(rt, beside, *made)
+            || fs::rename(rt, beside, target).is_err()
+            || !is_still(rt, target, *made)
+        {
             return Err(Unsaved::Disk { file });
         }
         Ok(())
     }
 
-    /// Removes a new file that was made.
-    fn unmake(&self, place: usize, progress: &Progress) -> Result<(), Unsaved>
-        ensures { IfErr result (FailsBelow (count_handed self.now)) }
-    {
-        let Some((file, _, beside)) = self.planned(place, progress) else {
-            return Ok(());
-        };
-        if place < progress.made && remove_if_there(self.folder.rt, beside).is_err() {
-            return Err(Unsaved::Disk { file });
+    /// Removes the new file beside a file of the plan, if it was made.
+    fn unmake(&self, place: usize, progress: &Progress) {
+        if let Some(made) = progress.made.get(place) {
+            self.remove_new(place, *made, progress);
         }
-        Ok(())
     }
 
     /// Carries out a step of the save.
@@ -477,11 +568,15 @@ impl<'a, R: Disk + Alloc<A = Global>, L: Listener> SavingFolder<'a, R, L> {
             Step::WriteNote => {
                 self.look_again()?;
                 self.look_at_others(progress)?;
+                self.look_at_all_new(progress)?;
                 progress.paper.noted = true;
                 return self.write_paper(progress);
             }
             Step::Place(file) => return self.place(file, progress),
-            Step::Unmake(file) => return self.unmake(file, progress),
+            Step::Unmake(file) => {
+                self.unmake(file, progress);
+                return Ok(());
+            }
             Step::Sync => sync_folder(rt),
             Step::RemoveDraft => remove_draft(rt, rt.alloc()),
             Step::RemovePaper => remove_paper(rt),
@@ -507,12 +602,18 @@ impl<'a, R: Disk + Alloc<A = Global>, L: Listener> SavingFolder<'a, R, L> {
         }
     }
 
-    /// Carries out the steps of the save, each behind the one before.
+    /// Carries out the steps of the save, each after the one before. Once the note is removed, the save is at its end,
+    /// also if the device fails to keep that: then the next command finds the note and removes it again.
     fn carry_out_all(&self, steps: &[Step], progress: &mut Progress) -> Result<(), Unsaved>
         ensures { 0 < count_handed self.now → IfErr result (FailsBelow (count_handed self.now)) }
     {
+        let mut is_removed = false;
         for step in steps {
-            self.carry_out(*step, progress)?;
+            match self.carry_out(*step, progress) {
+                Ok(()) => is_removed |= *step == Step::RemovePaper,
+                Err(_) if is_removed => {}
+                Err(unsaved) => return Err(unsaved),
+            }
         }
         Ok(())
     }
@@ -534,32 +635,37 @@ impl<'a, R: Disk + Alloc<A = Global>, L: Listener> SavingFolder<'a, R, L> {
         }
     }
 
-    /// Copies what a file held when it was read, or what it holds now where it wasn't. Of none there is no copy.
-    fn copy(&self, pending: &Pending, to: &str) -> io::Result<()> {
-        let (rt, from) = (self.folder.rt, pending.target.as_str());
-        match self.loaded(pending.name.as_str()) {
-            Some(
-                Loaded {
-                    bytes: Some(held),
-                    ..
-                },
-            ) => copy_bytes(rt, held.as_slice(), from, to),
-            Some(_) => Ok(()),
-            None => copy_file(rt, from, to),
+    /// What the system said of the file of that name when it was read; none if there was none, or it wasn't read.
+    fn found(&self, name: &str) -> Option<&Metadata> {
+        match self.loaded(name) {
+            Some(loaded) => loaded.target.found.as_ref(),
+            None => None,
         }
     }
 
-    /// Copies all files that are to be replaced to another folder, down to the device.
+    /// Copies what a file held when it was read. There is no copy of a file that wasn't there.
+    fn copy(&self, name: &str, to: &str) -> io::Result<()> {
+        match self.read_of(name) {
+            Some(read) => copy_bytes(self.folder.rt, read, self.found(name), to),
+            None => Ok(()),
+        }
+    }
+
+    /// Copies the files that were handed in to another folder, down to the device. If the terms say that files stay
+    /// whose records or keys the program didn't change, these aren't copied.
     fn copy_all(&self, path: &str) -> io::Result<()> {
         let rt = self.folder.rt;
         make_folder(rt, path)?;
-        for pending in &self.pending {
+        let replaced = self.replaced()?;
+        for (file, pending) in self.pending.iter().enumerate() {
+            if self.terms.keep_unchanged && !replaced.contains(&file) {
+                continue;
+            }
             let name = pending.name.as_str();
             let copy = format!(in rt.alloc(); "{path}/{name}")?;
-            self.copy(pending, copy.as_str())?;
+            self.copy(name, copy.as_str())?;
         }
-        sync_path(rt, path)?;
-        sync_folder(rt)
+        sync_copies(rt, path)
     }
 
     /// Replaces all files that were handed in, or none, copied first where the terms say so: as they were read, once it
@@ -617,6 +723,15 @@ fn behind_note(unsaved: Unsaved) -> Unsaved
     }
 }
 
+/// The checksum of what a file holds now, none if there is none.
+fn sum_now<R: Disk>(rt: &R, name: &str) -> io::Result<Option<Sum>> {
+    match sum_of_file(rt, name)? {
+        Summed::Absent => Ok(None),
+        Summed::Sum(sum) => Ok(Some(sum)),
+        Summed::Long => Err(io::Error::from(ErrorKind::FileTooLarge)),
+    }
+}
+
 /// What is taken to stand at as many files as a plan names. A plan is taken away whatever stands at them.
 fn standing_slots(alloc: Global, count: usize) -> Result<Vec<Slot>, AllocError> {
     let mut slots = Vec::new(alloc);
@@ -626,7 +741,7 @@ fn standing_slots(alloc: Global, count: usize) -> Result<Vec<Slot>, AllocError> 
     Ok(slots)
 }
 
-impl<R: Disk + Alloc<A = Global>, L: Listener> Files for SavingFolder<'_, R, L> {
+impl<R: Disk<File = File> + Alloc<A = Global>, L: Listener> Files for SavingFolder<'_, R, L> {
     ghost holds = { λ _ _ _. Unit {0} };
 
     ghost failed = { λ saving. saving.folder.failures };

@@ -4,11 +4,12 @@
 ghost use Rattle.std.specs.Prelude.{◌≡◌, IfOk, IfSome, string_bytes};
 ghost use Rattle.folder_files.specs.Paths.{folder_of_path, name_of_path};
 
-use crate::disk::standing;
+use crate::disk::found_under;
+use crate::opening::{Identity, identity_of};
 use crate::user::Who;
 use save_rules::{FileFolder, Harm, Standing, harm_of, is_in_folder};
 use std::alloc::{Alloc, AllocError, Global};
-use std::fs::{self, Metadata, OpenFile, OpenOptions};
+use std::fs::{self, Metadata, OpenOptions};
 use std::io::{self, ErrorKind};
 use std::os::unix::fs::MetadataExt;
 use std::rt::Files as Disk;
@@ -21,6 +22,8 @@ const LINKS: u32 = 40;
 pub enum Hindrance {
     /// Another program has the folder.
     Taken,
+    /// A program on a file system without locks has the folder, or had it when it ended.
+    LockFile,
     /// The file system knows no locks.
     NoLocks,
     /// The folder can't be read.
@@ -41,12 +44,20 @@ pub enum Hindrance {
     Disk,
 }
 
-/// The file that stands under a name, behind links within its folder.
+/// The file under a name, after links within its folder.
 #[derive(Drop)]
 pub(crate) struct Target {
     pub(crate) name: String,
-    /// Device and number of the file, none where there is none.
-    pub(crate) file: Option<(u64, u64)>,
+    /// What the system says of the file, none if there is none. A save goes by this one look: the new file gets this
+    /// owner, group and mode.
+    pub(crate) found: Option<Metadata>,
+}
+
+impl Target {
+    /// Which file it is, none if there is none.
+    pub(crate) fn identity(&self) -> Option<Identity> {
+        self.found.as_ref().map(|data| identity_of(data))
+    }
 }
 
 /// A path cut into its folder's, which ends with a slash or is empty, and the name in it.
@@ -153,11 +164,12 @@ fn standing_of(data: &Metadata) -> Standing {
 }
 
 /// What the rules of a save know of the folder of a file.
-fn folder_standing<R: Disk>(rt: &R, name: &str) -> io::Result<FileFolder> {
+pub(crate) fn folder_standing<R: Disk>(rt: &R, name: &str) -> io::Result<FileFolder> {
     let data = fs::metadata(rt, folder_of(name))?;
     Ok(FileFolder {
         mode: data.mode(),
         owner: data.uid(),
+        group: data.gid(),
         device: data.dev(),
     })
 }
@@ -165,9 +177,11 @@ fn folder_standing<R: Disk>(rt: &R, name: &str) -> io::Result<FileFolder> {
 /// The system's number of what is permitted to nobody: a file that is immutable or only grows.
 const NOT_PERMITTED: i32 = 1;
 
-/// Whether the system lets nobody write a file, whatever its mode says.
-fn is_frozen<R: Disk>(rt: &R, name: &str) -> bool {
+/// Whether the system lets nobody write a file, whatever its mode says. The file is opened for reading too, because
+/// that doesn't wait for the other end of a pipe.
+pub(crate) fn is_frozen<R: Disk>(rt: &R, name: &str) -> bool {
     let mut options = OpenOptions::new();
+    options.read(true);
     options.write(true);
     match options.open(rt, name) {
         Ok(_) => false,
@@ -178,30 +192,48 @@ fn is_frozen<R: Disk>(rt: &R, name: &str) -> bool {
     }
 }
 
-/// Device and number of the file of a name, none where there is none, if it can be replaced as it was.
-fn replaceable<R: Disk>(
+/// Why a file of a name can't be replaced as it was, if it can't.
+fn hindrance_at<R: Disk>(
     rt: &R,
     name: &str,
+    data: &Metadata,
     who: &Who,
     takes_over: bool,
-) -> Result<Option<(u64, u64)>, Hindrance> {
-    let Ok(found) = standing(rt, name) else {
-        return Err(Hindrance::Disk);
-    };
-    let Some(data) = found else {
-        return Ok(None);
-    };
+) -> Option<Hindrance> {
     let Ok(folder) = folder_standing(rt, name) else {
-        return Err(Hindrance::Disk);
+        return Some(Hindrance::Disk);
     };
     let user = who.user();
-    if let Some(harm) = harm_of(&standing_of(&data), &folder, &user, takes_over) {
-        return Err(Hindrance::Harm(harm));
+    if let Some(harm) = harm_of(&standing_of(data), &folder, &user, takes_over) {
+        return Some(Hindrance::Harm(harm));
     }
     if is_frozen(rt, name) {
-        return Err(Hindrance::Frozen);
+        return Some(Hindrance::Frozen);
     }
-    Ok(Some((data.dev(), data.ino())))
+    None
+}
+
+/// The file under a name, after links within its folder, whether or not it can be replaced.
+pub(crate) fn linked_to<R: Disk + Alloc<A = Global>>(
+    rt: &R,
+    name: &str,
+) -> Result<Target, Hindrance> {
+    let name = last_name(rt, name)?;
+    match found_under(rt, name.as_str()) {
+        Ok(found) => Ok(Target { name, found }),
+        Err(_) => Err(Hindrance::Disk),
+    }
+}
+
+/// Why a file can't be replaced as it was, if it can't. A user who takes files over needn't give them their owners.
+pub(crate) fn hindrance_of<R: Disk>(
+    rt: &R,
+    target: &Target,
+    who: &Who,
+    takes_over: bool,
+) -> Option<Hindrance> {
+    let data = target.found.as_ref()?;
+    hindrance_at(rt, target.name.as_str(), data, who, takes_over)
 }
 
 /// The file under a name, if it can be replaced as it was. A user who takes files over needn't give them their owners.
@@ -211,10 +243,10 @@ pub(crate) fn target_of<R: Disk + Alloc<A = Global>>(
     who: &Who,
     takes_over: bool,
 ) -> Result<Target, Hindrance> {
-    let name = last_name(rt, name)?;
-    match replaceable(rt, name.as_str(), who, takes_over) {
-        Ok(file) => Ok(Target { name, file }),
-        Err(hindrance) => Err(hindrance),
+    let target = linked_to(rt, name)?;
+    match hindrance_of(rt, &target, who, takes_over) {
+        Some(hindrance) => Err(hindrance),
+        None => Ok(target),
     }
 }
 

@@ -12,6 +12,9 @@ const STATUS: &str = "/proc/self/status";
 /// The bit of the right to give files to others.
 const CHOWN: u64 = 1;
 
+/// The bit of the right to read, write and search whatever modes say.
+const DAC_OVERRIDE: u64 = 2;
+
 /// The bit of the right to do with each file what its owner may.
 const FOWNER: u64 = 8;
 
@@ -24,6 +27,7 @@ pub(crate) struct Who {
     groups: Vec<u32>,
     gives_away: bool,
     acts_for_owners: bool,
+    overrides_modes: bool,
 }
 
 /// The effective one of a line's four numbers.
@@ -75,6 +79,7 @@ fn told(alloc: Global, text: &str) -> Result<Option<Who>, AllocError> {
         groups: numbers(alloc, groups)?,
         gives_away: rights & CHOWN != 0,
         acts_for_owners: rights & FOWNER != 0,
+        overrides_modes: rights & DAC_OVERRIDE != 0,
     }))
 }
 
@@ -98,6 +103,7 @@ impl Who {
                 groups: Vec::new(rt.alloc()),
                 gives_away: true,
                 acts_for_owners: true,
+                overrides_modes: true,
             },
         }
     }
@@ -110,6 +116,7 @@ impl Who {
             groups: self.groups.as_slice(),
             gives_away: self.gives_away,
             acts_for_owners: self.acts_for_owners,
+            overrides_modes: self.overrides_modes,
         }
     }
 }

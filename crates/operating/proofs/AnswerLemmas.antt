@@ -1,11 +1,16 @@
--- What was answered in several turns, one behind the other.
-use Rattle.std.proofs.Common.{◌≡◌, ◌++◌, ◌∙◌, inl, inr, ap, refl, sym, ℕ, List, []}
-use Rattle.std.specs.Prelude.{Result, Ok, Err, OnErr}
+-- What was answered in several turns, one behind the other, and why they broke off.
+use Rattle.std.proofs.Common.{◌≡◌, ◌≢◌, ◌++◌, ◌∙◌, inl, inr, ap, refl, subst, sym, ℕ, List, [], Option}
+use Rattle.std.specs.Prelude.{Result, Ok, Err, IfErr, OnErr}
 use Rattle.std.proofs.lemmas.List.{append-nil, append_assoc}
 use Rattle.line_journal.specs.Kept.{ended_by_lf}
-use Rattle.operating.specs.Answers.{answer_bytes, AnswersKept, LastUnkept}
+use Rattle.operating.specs.Answers.{AnswersKept, AnythingBreaks, BrokeOff, BrokenFor, FailedOrNot, LastUnkept}
+use Rattle.operating.specs.Answers.{NotesFailure, OperatorBreaks, answer_bytes, broken_by}
 use Rattle.operating.specs.declared.operator.Answer.{Answer}
 use Rattle.operating.specs.declared.operator.Answer.TheVariants.{Line, End}
+use Rattle.operating.specs.declared.operator.Broken.{Broken}
+use Rattle.operating.specs.declared.operator.Broken.TheVariants as broken
+use Rattle.operating.specs.declared.operator.OperatorFailed.{OperatorFailed}
+use Rattle.operating.specs.declared.operator.OperatorFailed.TheVariants as failed
 
 nothing_more : (a : List ℕ) → a ≡ a ++ []
 nothing_more a = sym (append-nil a)
@@ -61,3 +66,31 @@ unkept_behind a b c x y z k l = record {
 pub on_err : {A E : Type 0} (result : Result A E) (P : Type 0) → P → OnErr result P
 on_err (Ok x) P p = tt
 on_err (Err e) P p = p
+
+-- ---- why the operator failed
+
+no_journal : (cause : OperatorFailed) → broken.Journal ≢ broken_by cause
+no_journal failed.Memory = λ e. cc
+no_journal failed.Other = λ e. cc
+
+-- where the operator failed, the count of the journal's failures stays
+pub journal_unfailed : (count : ℕ) (after : Option OperatorFailed) (why : Broken) → BrokenFor after why
+    → BrokeOff count count why
+journal_unfailed count after broken.Operator b = refl
+journal_unfailed count after broken.Line b = refl
+journal_unfailed count after broken.Memory b = refl
+journal_unfailed count after broken.Journal b = absurd (no_journal b.cause b.is)
+
+-- why an operator failed in a later part, where he hadn't failed before
+pub failed_before : (before middle after : Option OperatorFailed) (why : Broken) → middle ≡ before
+    → FailedOrNot middle after why → FailedOrNot before after why
+failed_before before middle after why e f = subst (λ (m : Option OperatorFailed). FailedOrNot m after why) e f
+
+pub journal_isnt : broken.Journal ≢ broken.Operator
+journal_isnt = λ e. cc
+
+pub line_isnt : broken.Line ≢ broken.Operator
+line_isnt = λ e. cc
+
+pub memory_isnt : broken.Memory ≢ broken.Operator
+memory_isnt = λ e. cc

@@ -1,3 +1,4 @@
 pub mod Talks
 pub mod Answers
+pub mod Asking
 pub mod Pieces

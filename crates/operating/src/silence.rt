@@ -1,10 +1,10 @@
 //! Runs behind the end of the input: each further line is empty.
 
 ghost use Rattle.calendar.specs.declared.day.DayParts.{DayParts};
-ghost use Rattle.operating.specs.declared.operator.Broken.TheVariants.{Operator as OfOperator};
+ghost use Rattle.operating.specs.Answers.{OperatorBreaks};
 ghost use Rattle.operating.specs.Pieces.{IsFurther, QuietTurned, Stood};
 ghost use Rattle.operating.specs.Talks.{ComesTo, Talked};
-ghost use Rattle.std.specs.Prelude.{◌≡◌, ◌≤◌, ℕ, List, Option, IfErr, IfOk};
+ghost use Rattle.std.specs.Prelude.{◌≡◌, ◌≤◌, ℕ, List, Option, IfOk};
 ghost use Rattle.work_area.specs.Areas.{StoreState};
 
 use crate::operator::{Broken, Operator};
@@ -75,7 +75,7 @@ fn take_empty<O: Operator, K: KeyList>(
         → QuietTurned verified.now store today bytes budget turn banks.new) }
     ensures further { IfOk result (IsFurther budget steps) }
     ensures untold { O.answered operator.new ≡ O.answered operator.old }
-    ensures broke { IfErr result (λ why. why ≡ OfOperator) }
+    ensures cause { OperatorBreaks result (O.failure operator.old) (O.failure operator.new) }
 {
     miss(verified, operator, banks)?;
     Ok(take_step(alloc, verified, banks, budget, steps))
@@ -100,7 +100,7 @@ fn take_quiet_turn<O: Operator, K: KeyList>(
         → QuietTurned verified.now store today bytes budget turn banks.new) }
     ensures further { IfOk result (IsFurther budget steps) }
     ensures untold { O.answered operator.new ≡ O.answered operator.old }
-    ensures broke { IfErr result (λ why. why ≡ OfOperator) }
+    ensures cause { OperatorBreaks result (O.failure operator.old) (O.failure operator.new) }
 {
     pieces_make_the_whole();
     let left = budget - steps;
@@ -136,7 +136,7 @@ pub(crate) fn run_out<O: Operator, K: KeyList>(
         → Talked verified.now store today bytes steps banks.old
         → ComesTo verified.now store today bytes budget outcome banks.new) }
     ensures untold { O.answered operator.new ≡ O.answered operator.old }
-    ensures broke { IfErr result (λ why. why ≡ OfOperator) }
+    ensures cause { OperatorBreaks result (O.failure operator.old) (O.failure operator.new) }
 {
     pieces_make_the_whole();
     let mut turn = take_step(alloc, verified, banks, budget, steps);

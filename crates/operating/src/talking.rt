@@ -4,14 +4,15 @@ ghost use Rattle.std.specs.Prelude.{◌≡◌, ◌≤◌, true, Option, length, 
 ghost use Rattle.calendar.specs.declared.day.DayParts.{DayParts};
 ghost use Rattle.machine.specs.Showing.{shown_next};
 ghost use Rattle.machine.specs.Twins.{Twin};
-ghost use Rattle.operating.specs.Answers.{AnswersKept, BrokeOff, LastUnkept};
-ghost use Rattle.operating.specs.declared.operator.Broken.TheVariants.{Operator as OfOperator};
+ghost use Rattle.operating.specs.Answers.{AnswersKept, AnythingBreaks, BrokeOff, LastUnkept, OperatorBreaks};
+ghost use Rattle.operating.specs.Asking.{field_wanted as field_wanted_of};
 ghost use Rattle.operating.specs.Talks.{ComesTo, IsCounted, IsNearer, Talked, TookLine, Turned};
 ghost use Rattle.run_steps.specs.Shapes.{StoreFits};
 ghost use Rattle.run_steps.specs.World.{World};
 ghost use Rattle.text_lines.specs.Lines.{is_ended as is_ended_text, is_out, short_lines};
 ghost use Rattle.work_area.specs.Areas.{StoreState};
 
+use crate::asking::field_wanted;
 use crate::operator::{Answer, Broken, Operator, Scene};
 use crate::pieces::{Piece, take_piece};
 use crate::silence::run_out;
@@ -51,6 +52,7 @@ fn view_of<'a, K: KeyList>(verified: &'a Verified, banks: &'a Banks<K>) -> Scene
         screen: banks.screen(),
         place: banks.place(),
         shown: None,
+        field: None,
     }
 }
 
@@ -61,6 +63,15 @@ fn marked_view<'a, K: KeyList>(verified: &'a Verified, banks: &'a Banks<K>) -> S
 {
     let mut view = view_of(verified, banks);
     view.shown = banks.next_shown(verified);
+    view
+}
+
+/// What an operator sees who is asked for a line: also the field in which its value is stored.
+fn asking_view<'a, K: KeyList>(verified: &'a Verified, banks: &'a Banks<K>) -> Scene<'a>
+    ensures { result.field ≡ field_wanted_of verified.now banks.now.env.store banks.now.place }
+{
+    let mut view = view_of(verified, banks);
+    view.field = field_wanted(verified.code(), banks.store(), banks.place());
     view
 }
 
@@ -86,12 +97,12 @@ fn take_one<J: Journal, O: Operator, K: KeyList>(
         (J.holds journal.old) (J.holds journal.new)) }
     ensures unfailed { OnOk result (J.failed journal.new ≡ J.failed journal.old) }
     ensures broke { IfErr result (BrokeOff (J.failed journal.old) (J.failed journal.new)) }
+    ensures cause { AnythingBreaks result (O.failure operator.old) (O.failure operator.new) }
 {
     let room = most - used;
-    let line = match operator.ask(&view_of(verified, banks), room) {
-        Ok(Answer::Line(line)) => line,
-        Ok(Answer::End) => return Ok(None),
-        Err(_) => return Err(Broken::Operator),
+    let line = match operator.ask(&asking_view(verified, banks), room)? {
+        Answer::Line(line) => line,
+        Answer::End => return Ok(None),
     };
     let bytes = line.len();
     if bytes >= room || line.contains(&b'\n') {
@@ -113,12 +124,9 @@ pub(crate) fn show<O: Operator, K: KeyList>(
 ) -> Result<(), Broken>
     requires { (w : World) × Twin verified.now w banks.now }
     ensures untold { O.answered operator.new ≡ O.answered operator.old }
-    ensures broke { IfErr result (λ why. why ≡ OfOperator) }
+    ensures cause { OperatorBreaks result (O.failure operator.old) (O.failure operator.new) }
 {
-    match operator.see(&marked_view(verified, banks)) {
-        Ok(()) => Ok(()),
-        Err(_) => Err(Broken::Operator),
-    }
+    Ok(operator.see(&marked_view(verified, banks))?)
 }
 
 /// Tells an operator of an empty line behind the end of the input.
@@ -128,12 +136,9 @@ pub(crate) fn miss<O: Operator, K: KeyList>(
     banks: &Banks<K>,
 ) -> Result<(), Broken>
     ensures untold { O.answered operator.new ≡ O.answered operator.old }
-    ensures broke { IfErr result (λ why. why ≡ OfOperator) }
+    ensures cause { OperatorBreaks result (O.failure operator.old) (O.failure operator.new) }
 {
-    match operator.miss(&view_of(verified, banks)) {
-        Ok(()) => Ok(()),
-        Err(_) => Err(Broken::Operator),
-    }
+    Ok(operator.miss(&view_of(verified, banks))?)
 }
 
 /// Shows an operator where the run ended.
@@ -143,12 +148,9 @@ fn close<O: Operator, K: KeyList>(
     banks: &Banks<K>,
 ) -> Result<(), Broken>
     ensures untold { O.answered operator.new ≡ O.answered operator.old }
-    ensures broke { IfErr result (λ why. why ≡ OfOperator) }
+    ensures cause { OperatorBreaks result (O.failure operator.old) (O.failure operator.new) }
 {
-    match operator.end(&view_of(verified, banks)) {
-        Ok(()) => Ok(()),
-        Err(_) => Err(Broken::Operator),
-    }
+    Ok(operator.end(&view_of(verified, banks))?)
 }
 
 /// Takes a line where none is left, and goes on behind it; where the input ended, the run goes on to its end.
@@ -182,6 +184,7 @@ fn answer<J: Journal, O: Operator, K: KeyList>(
         (J.holds journal.old) (J.holds journal.new)) }
     ensures unfailed { OnOk result (J.failed journal.new ≡ J.failed journal.old) }
     ensures broke { IfErr result (BrokeOff (J.failed journal.old) (J.failed journal.new)) }
+    ensures cause { AnythingBreaks result (O.failure operator.old) (O.failure operator.new) }
 {
     banks_go_on(verified);
     lines_behind_change_no_step();
@@ -230,6 +233,7 @@ fn take_turn<J: Journal, O: Operator, K: KeyList>(
         (J.holds journal.old) (J.holds journal.new)) }
     ensures unfailed { OnOk result (J.failed journal.new ≡ J.failed journal.old) }
     ensures broke { IfErr result (BrokeOff (J.failed journal.old) (J.failed journal.new)) }
+    ensures cause { AnythingBreaks result (O.failure operator.old) (O.failure operator.new) }
 {
     pieces_make_the_whole();
     let left = budget - steps;
@@ -291,6 +295,7 @@ fn take_turns<J: Journal, O: Operator, K: KeyList>(
         (J.holds journal.old) (J.holds journal.new)) }
     ensures unfailed { OnOk result (J.failed journal.new ≡ J.failed journal.old) }
     ensures broke { IfErr result (BrokeOff (J.failed journal.old) (J.failed journal.new)) }
+    ensures cause { AnythingBreaks result (O.failure operator.old) (O.failure operator.new) }
 {
     let mut steps = 0;
     let mut used = used;
@@ -314,12 +319,9 @@ fn take_turns<J: Journal, O: Operator, K: KeyList>(
 /// Tells the operator that the run begins. Answers which places are marked.
 fn begin<O: Operator>(verified: &Verified, operator: &mut O) -> Result<Vec<bool>, Broken>
     ensures untold { O.answered operator.new ≡ O.answered operator.old }
-    ensures broke { IfErr result (λ why. why ≡ OfOperator) }
+    ensures cause { OperatorBreaks result (O.failure operator.old) (O.failure operator.new) }
 {
-    match operator.begin(verified.code()) {
-        Ok(marks) => Ok(marks),
-        Err(_) => Err(Broken::Operator),
-    }
+    Ok(operator.begin(verified.code())?)
 }
 
 /// All lines of a text.
@@ -373,8 +375,9 @@ pub struct EndedTalk<K: KeyList> {
 /// that isn't taken. Where the conversation breaks off, the last line that was answered may be missing in the journal.
 ///
 /// # Errors
-/// The operator or the journal failed, or a line isn't one, or memory was refused before the run began or for a line.
-/// `Broken::Journal` is answered only where the journal failed and counted that.
+/// The operator or the journal failed, or a line isn't one, or memory was refused: before the run began, for a line, or
+/// to the operator. If the operator failed, the error is the one that his failure makes; `Broken::Operator` comes only
+/// then. `Broken::Journal` comes only if the journal failed and counted that.
 pub fn converse<J: Journal, O: Operator, K: KeyList>(
     alloc: Global,
     verified: &Verified,
@@ -401,6 +404,7 @@ pub fn converse<J: Journal, O: Operator, K: KeyList>(
         (J.holds journal.old) (J.holds journal.new)) }
     ensures unfailed { OnOk result (J.failed journal.new ≡ J.failed journal.old) }
     ensures broke { IfErr result (BrokeOff (J.failed journal.old) (J.failed journal.new)) }
+    ensures cause { AnythingBreaks result (O.failure operator.old) (O.failure operator.new) }
 {
     let marks = begin(verified, operator)?;
     let mut banks = begun(alloc, verified, store, today, handed)?;

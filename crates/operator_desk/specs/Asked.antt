@@ -1,7 +1,7 @@
 -- What is known of the places of a code and of the line that is wanted, and which answers leave the old value.
 use Rattle.std.specs.Prelude.{◌≡◌, ◌⊎◌, ◌-◌, ◌==◌, ◌||◌, not, nat_lt, ℕ, List, [], ◌∷◌, Bool, true, false, Option, Some}
-use Rattle.std.specs.Prelude.{MatchOption, None, if◌then◌else◌, is_none, is_some, length, option_map}
-use Rattle.std.specs.Prelude.{slice_get, string_bytes}
+use Rattle.std.specs.Prelude.{MatchOption, None, if◌then◌else◌, is_none, is_some, length, option_and_then}
+use Rattle.std.specs.Prelude.{option_map, slice_get, string_bytes}
 use Rattle.calendar.specs.DateTexts.{date_read}
 use Rattle.code_items.specs.declared.instr.Instr.{Instr}
 use Rattle.code_items.specs.declared.instr.Instr.TheVariants as instr
@@ -9,6 +9,11 @@ use Rattle.code_items.specs.declared.instr.ScreenInstr.{ScreenInstr}
 use Rattle.code_items.specs.declared.instr.ScreenInstr.TheVariants as screen
 use Rattle.fixed_num.specs.Number.{Number as Decimal, asterisk, finite}
 use Rattle.fixed_num.specs.Reading.{parsed}
+use Rattle.operating.specs.declared.operator.FieldSize.{FieldSize}
+use Rattle.operator_desk.specs.declared.judging.NoValue.{NoValue}
+use Rattle.operator_desk.specs.declared.judging.NoValue.TheVariants as unspelled
+use Rattle.operator_desk.specs.declared.judging.Holds.{Holds}
+use Rattle.operator_desk.specs.declared.judging.Holds.TheVariants as holds
 use Rattle.operator_desk.specs.declared.gets.Drawing.{Drawing}
 use Rattle.operator_desk.specs.declared.gets.Drawing.TheVariants as drawing
 use Rattle.operator_desk.specs.declared.gets.Gets.{Gets}
@@ -48,6 +53,16 @@ is_no_answer (Some wanted) line = is_no_value wanted line
 -- whether a line that isn't empty leaves the old value: it spells no value of the kind that is wanted
 abbrev pub leaves_old : Option Kind → List ℕ → Bool
 leaves_old wanted line = if length line == 0 then false else is_no_answer wanted line
+
+-- what such a line doesn't spell
+abbrev pub no_value_of : Kind → Option NoValue
+no_value_of kinds.Number = Some unspelled.Number
+no_value_of kinds.Date = Some unspelled.Date
+no_value_of kinds.Logical = Some unspelled.Truth
+no_value_of kinds.Text = None
+
+abbrev pub no_value_in : Option Kind → List ℕ → Option NoValue
+no_value_in wanted line = if leaves_old wanted line then option_and_then no_value_of wanted else None
 
 -- a run keeps each old value of the kind
 abbrev pub KeepsOld : Kind → List ℕ → Type 0
@@ -129,6 +144,12 @@ takes_line_at gets place = takes_if_known (slice_get (places_known gets) place)
 
 abbrev pub kind_wanted_at : Gets → ℕ → Option Kind
 kind_wanted_at gets place = kind_if_known (slice_get (places_known gets) place)
+
+-- how much of an answer a field takes: a text of its width, or a number that fits it
+abbrev pub held_by_field : Option Kind → FieldSize → Holds
+held_by_field (Some kinds.Number) size = holds.Number size
+held_by_field (Some kinds.Text) size = holds.Text size.width
+held_by_field _ size = holds.Unknown
 
 -- the same is known of the code, and the same line is wanted at the same place of the screen
 abbrev pub AsksTheSame : Gets → Gets → Type 0

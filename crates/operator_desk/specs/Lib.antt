@@ -1,3 +1,4 @@
+pub mod Again
 pub mod Asked
 pub mod Beginnings
 pub mod Held

@@ -25,6 +25,11 @@ flag_said None = None
 flag_said (Some word) =
     if bytes_eq word (codes "yes") then Some true else (if bytes_eq word (codes "no") then Some false else None)
 
+-- the same of a word that an earlier program didn't say: a no then
+abbrev pub flag_if_said : Option (List ℕ) → Option Bool
+flag_if_said None = Some false
+flag_if_said (Some word) = flag_said (Some word)
+
 -- the word of a code page, or that none is named
 abbrev pub page_said : Option (List ℕ) → Option (Option CodePage)
 page_said None = None
@@ -38,6 +43,7 @@ pub record IsSaveSaid (paper : JournalPaper) (save : TalkSave) : Type 0 where
   pub only_finished : flag_said (word_said paper (codes "--only-finished")) ≡ Some save.only_finished
   pub new_owner : flag_said (word_said paper (codes "--new-owner")) ≡ Some save.new_owner
   pub no_lock : flag_said (word_said paper (codes "--no-lock")) ≡ Some save.no_lock
+  pub keep_unchanged : flag_if_said (word_said paper (codes "--keep-unchanged")) ≡ Some save.keep_unchanged
 
 -- a rehearsal saves nothing
 abbrev pub IsOutcomeSaid : JournalPaper → Option TalkSave → Type 0

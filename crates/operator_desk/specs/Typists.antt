@@ -8,7 +8,7 @@ abbrev pub lines_to_type : {R W : Type 0} → Typist R W → HeldLines
 lines_to_type typist = typist.left
 
 abbrev pub lines_taken : {R W : Type 0} → Typist R W → List ℕ
-lines_taken typist = typist.taken.bytes.items
+lines_taken typist = typist.taken.lines.bytes.items
 
 -- who is told how far the run has come
 abbrev pub watcher_of : {R W : Type 0} → Typist R W → W

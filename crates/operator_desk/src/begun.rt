@@ -3,7 +3,7 @@
 #![tactic(auto)]
 
 ghost use Rattle.std.specs.Prelude.{◌≡◌, IfSome, OnOk, Some, codes};
-ghost use Rattle.operator_desk.specs.Talked.{IsOutcomeSaid, IsSaveSaid, IsTalkSaid, flag_said, page_said};
+ghost use Rattle.operator_desk.specs.Talked.{IsOutcomeSaid, IsSaveSaid, IsTalkSaid, flag_if_said, flag_said, page_said};
 ghost use Rattle.operator_desk.specs.Talked.{save_without_lock, word_said};
 
 use code_pages::CodePage;
@@ -23,6 +23,8 @@ pub struct TalkSave {
     pub new_owner: bool,
     /// Whether they are saved where the file system knows no locks.
     pub no_lock: bool,
+    /// Whether files that the run didn't change stay.
+    pub keep_unchanged: bool,
 }
 
 /// The words of a conversation, all of them said.
@@ -84,6 +86,7 @@ fn put_save(alloc: Global, paper: &mut JournalPaper, save: &TalkSave) -> Result<
     paper.put(alloc, "--only-finished", yes_no(save.only_finished))?;
     paper.put(alloc, "--new-owner", yes_no(save.new_owner))?;
     paper.put(alloc, "--no-lock", yes_no(save.no_lock))?;
+    paper.put(alloc, "--keep-unchanged", yes_no(save.keep_unchanged))?;
     paper.put(alloc, "--backup", backup)
 }
 
@@ -127,6 +130,17 @@ fn is_yes(paper: &JournalPaper, key: &str) -> Option<bool>
     None
 }
 
+/// Whether a word is a yes. Where nothing is said under its key, as in a text that an earlier program wrote, it is a no;
+/// none where what is said is neither.
+fn is_yes_if_said(paper: &JournalPaper, key: &str) -> Option<bool>
+    ensures { result ≡ flag_if_said (word_said paper.now key.now) }
+{
+    match paper.get(key) {
+        Some(_) => is_yes(paper, key),
+        None => Some(false),
+    }
+}
+
 /// The code page that is said; none where nothing is said of it, or no such page is known.
 fn page_in(paper: &JournalPaper) -> Option<Option<CodePage>>
     ensures { result ≡ page_said (word_said paper.now (codes "--from")) }
@@ -160,6 +174,7 @@ fn save_in(alloc: Global, paper: &JournalPaper) -> Option<TalkSave>
         only_finished: is_yes(paper, "--only-finished")?,
         new_owner: is_yes(paper, "--new-owner")?,
         no_lock: is_yes(paper, "--no-lock")?,
+        keep_unchanged: is_yes_if_said(paper, "--keep-unchanged")?,
         backup: name_in(alloc, paper.get("--backup")?).ok()?,
     })
 }

@@ -1,25 +1,21 @@
 //! Where on the screen the values are shown that a READ asks for.
 #![tactic(auto)]
 
-ghost use Rattle.std.specs.Prelude.{◌≡◌, ◌++◌, None, [], IfOk, IfSome, OnOk, is_none, is_some, map, take};
-ghost use Rattle.calendar.specs.DateTexts.{date_read};
-ghost use Rattle.fixed_num.specs.Reading.{parsed};
+ghost use Rattle.std.specs.Prelude.{◌≡◌, ◌++◌, None, [], IfOk, IfSome, OnOk, map};
 ghost use Rattle.operator_desk.specs.Asked as spec;
 ghost use Rattle.operator_desk.specs.Asked.{AsksTheSame, places_known};
-ghost use Rattle.xvalue.specs.Answers as answers;
 
-use calendar::Day;
+use crate::judging::{Holds, Wanted, bad_answer};
 use code_items::Code;
 use code_items::instr::{Instr, ScreenInstr};
-use fixed_num::Num;
 use operating::{Scene, ShownAt};
 use std::alloc::{AllocError, Global};
 use terminal_screen::{ShownField, lay_over};
 use waiting_fields::{Read, reads_of};
 use xvalue::Kind;
 
-/// The most bytes of a line that a run reads.
-const MOST_LETTERS: usize = 254;
+/// The columns of a row.
+const COLUMNS: usize = 80;
 
 /// Where the line that is wanted is typed.
 #[derive(Clone, Copy)]
@@ -98,88 +94,8 @@ pub struct Gets {
     pub waiting: WaitingPlace,
     /// The number of the field that waits, from 1.
     pub number: usize,
-    /// What kind of value the line is for; none where it is a line as such.
-    pub kind: Option<Kind>,
-}
-
-/// Whether a letter is T or Y.
-fn says_yes(letter: u8) -> bool
-    ensures { result ≡ answers.says_yes letter }
-{
-    (letter == b'T' || letter == b't') || (letter == b'Y' || letter == b'y')
-}
-
-/// Whether a letter is F or N.
-fn says_no(letter: u8) -> bool
-    ensures { result ≡ answers.says_no letter }
-{
-    (letter == b'F' || letter == b'f') || (letter == b'N' || letter == b'n')
-}
-
-/// Whether a line begins with none of T, Y, F and N.
-fn is_no_truth(line: &[u8]) -> bool
-    ensures { result ≡ spec.is_no_truth line.now }
-{
-    match line {
-        [letter, ..] => !(says_yes(*letter) || says_no(*letter)),
-        [] => false,
-    }
-}
-
-/// Whether a line spells no number.
-fn is_no_number(line: &[u8]) -> bool
-    ensures { result ≡ spec.is_no_number (parsed line.now) }
-{
-    Num::parse(line).is_asterisk()
-}
-
-/// Whether a line spells no day.
-fn is_no_day(line: &[u8]) -> bool
-    ensures { result ≡ is_none (date_read line.now) }
-{
-    Day::read(line).parts().is_none()
-}
-
-/// What is told, if it is.
-fn told_if(is: bool, told: &'static str) -> Option<&'static str>
-    ensures { is_some result ≡ is }
-{
-    if is { Some(told) } else { None }
-}
-
-/// So many bytes from the front, or all.
-fn front(line: &[u8], count: usize) -> &[u8]
-    ensures { result.now ≡ take count line.now }
-{
-    &line[..count.min(line.len())]
-}
-
-/// Why an answer leaves the old value.
-pub fn bad_answer(kind: Option<Kind>, line: &[u8]) -> Option<&'static str>
-    ensures told { is_some result ≡ spec.leaves_old kind (take 254 line.now) }
-
-    // What is told is what a run makes of the line.
-    ensures run { IfSome kind (λ wanted. spec.IsToldOf (is_some result) wanted (take 254 line.now)) }
-{
-    told_of(kind, front(line, MOST_LETTERS))
-}
-
-/// Why what is read of an answer leaves the old value.
-fn told_of(kind: Option<Kind>, line: &[u8]) -> Option<&'static str>
-    ensures { is_some result ≡ spec.leaves_old kind line.now }
-{
-    if line.is_empty() {
-        return None;
-    }
-    match kind {
-        None | Some(Kind::Text) => None,
-        Some(Kind::Number) => told_if(is_no_number(line), "that is no number; the old value stays"),
-        Some(Kind::Date) => told_if(is_no_day(line), "that is no date; the old value stays"),
-        Some(Kind::Logical) => told_if(
-            is_no_truth(line),
-            "that is neither T, Y, F nor N; the old value stays",
-        ),
-    }
+    /// What the line is for.
+    pub wanted: Wanted,
 }
 
 /// How many rows were sent out, counted as they come.
@@ -339,7 +255,7 @@ impl Gets {
         ensures fields { result.fields.items ≡ [] }
         ensures waiting { result.waiting ≡ WaitingPlace.Behind }
         ensures number { result.number ≡ 0 }
-        ensures kind { result.kind ≡ None }
+        ensures kind { result.wanted.kind ≡ None }
     {
         Gets {
             places: Vec::new(alloc),
@@ -352,7 +268,10 @@ impl Gets {
             sent: RowCount { bytes: 0, rows: 0 },
             waiting: WaitingPlace::Behind,
             number: 0,
-            kind: None,
+            wanted: Wanted {
+                kind: None,
+                holds: Holds::Unknown,
+            },
         }
     }
 
@@ -539,14 +458,46 @@ impl Gets {
         }
     }
 
-    /// Learns which line is wanted, and where it is typed.
+    /// Learns which line is wanted, what it is for, and where it is typed.
     pub fn wait(&mut self, alloc: Global, seen: &Scene<'_>) -> Result<(), AllocError>
-        ensures kind { OnOk result (self.new.kind ≡ spec.kind_wanted_at self.old seen.now.place) }
+        ensures kind { OnOk result (self.new.wanted.kind ≡ spec.kind_wanted_at self.old seen.now.place) }
+        ensures field { OnOk result (IfSome seen.now.field (λ size. self.new.wanted.holds
+            ≡ spec.held_by_field (spec.kind_wanted_at self.old seen.now.place) size)) }
     {
         let kind = self.kind_at(seen.place);
         self.wait_at(alloc, seen)?;
-        self.kind = kind;
+        self.wanted = Wanted {
+            kind,
+            holds: self.holds(kind, seen),
+        };
         Ok(())
+    }
+
+    /// How much of an answer the value takes for which a line of this kind is wanted: what the field takes in which it
+    /// is stored, or, of a text, as many bytes as the GET showed.
+    fn holds(&self, kind: Option<Kind>, seen: &Scene<'_>) -> Holds
+        ensures { IfSome seen.now.field (λ size. result ≡ spec.held_by_field kind size) }
+    {
+        match (kind, seen.field) {
+            (Some(Kind::Number), Some(size)) => Holds::Number(size),
+            (Some(Kind::Text), Some(size)) => Holds::Text(usize::from(size.width)),
+            (Some(Kind::Text), None) => self.holds_shown(seen.place),
+            _ => Holds::Unknown,
+        }
+    }
+
+    /// How many bytes the text has that a GET showed for a place; that isn't known where its row may have been too
+    /// short for it.
+    fn holds_shown(&self, place: usize) -> Holds {
+        match self.member(place) {
+            Some(member) => match self.asked.get(member.field) {
+                Some(Some(field)) if field.column.saturating_add(field.length) < COLUMNS => {
+                    Holds::Text(field.length)
+                }
+                _ => Holds::Unknown,
+            },
+            None => Holds::Unknown,
+        }
     }
 
     /// Learns where the line that is wanted is typed.
@@ -601,7 +552,7 @@ impl Gets {
         let Some(row) = seen.screen.rows().get(field.row) else {
             return Ok(());
         };
-        if line.is_empty() || bad_answer(self.kind, line).is_some() {
+        if line.is_empty() || bad_answer(self.wanted.kind, line).is_some() {
             return Ok(());
         }
         self.answers.push(Laid {

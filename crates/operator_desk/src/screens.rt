@@ -65,7 +65,7 @@ impl Screens {
     /// Makes their file, if one is wanted. None of its name stands.
     ///
     /// # Errors
-    /// The file can't be made.
+    /// The file can't be made, or memory was refused.
     pub fn make<R: Disk<File = File>>(&mut self, rt: &R) -> Result<(), OperatorFailed>
         ensures name { screens_file self.new ≡ screens_file self.old }
         ensures unwanted { screens_file self.old ≡ None → (self.new ≡ self.old) × IsOk result }
@@ -78,13 +78,8 @@ impl Screens {
         let mut options = OpenOptions::new();
         options.write(true);
         options.create_new(true);
-        match options.open(rt, name.as_str()) {
-            Ok(file) => {
-                self.file = Some(file);
-                Ok(())
-            }
-            Err(_) => Err(OperatorFailed),
-        }
+        self.file = Some(options.open(rt, name.as_str())?);
+        Ok(())
     }
 
     /// Writes the 25 rows as they stand, without the blanks at their ends, and behind them the line that is taken now,
@@ -105,12 +100,7 @@ impl Screens {
         let Some(file) = &mut self.file else {
             return Ok(());
         };
-        let Ok(text) = screen_text(alloc, rows, line) else {
-            return Err(OperatorFailed);
-        };
-        match file.write_all(text.as_slice()) {
-            Ok(()) => Ok(()),
-            Err(_) => Err(OperatorFailed),
-        }
+        let text = screen_text(alloc, rows, line)?;
+        Ok(file.write_all(text.as_slice())?)
     }
 }

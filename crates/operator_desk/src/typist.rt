@@ -1,10 +1,12 @@
 //! Who types lines that are all there, so that the screens before them can be kept.
 #![tactic(auto)]
 
-ghost use Rattle.operating.specs.Answers.{answer_bytes};
+ghost use Rattle.operating.specs.Answers.{NotesFailure, answer_bytes};
+ghost use Rattle.operating.specs.declared.operator.OperatorFailed.TheVariants.{Memory as ForMemory};
+ghost use Rattle.operator_desk.specs.Again.{IsTypedLine};
 ghost use Rattle.operator_desk.specs.Held.{left_of};
 ghost use Rattle.operator_desk.specs.Typists.{lines_taken, lines_to_type, watcher_of};
-ghost use Rattle.std.specs.Prelude.{◌≡◌, ◌++◌, [], IfOk, OnErr};
+ghost use Rattle.std.specs.Prelude.{◌≡◌, ◌++◌, [], None, IfErr, IfOk, OnErr};
 
 use crate::held_lines::HeldLines;
 use crate::screens::Screens;
@@ -12,7 +14,7 @@ use code_items::Code;
 use line_journal::{Journal, JournalFailed, keep};
 use operating::{Answer, Operator, OperatorFailed, Scene};
 use run_commands::Watcher;
-use std::alloc::{Alloc, Global};
+use std::alloc::{Alloc, AllocError, Global};
 use std::fs::File;
 use std::rt::Runtime;
 use text_lines::without_return;
@@ -48,24 +50,57 @@ impl TakenLines {
             failures: 0,
         }
     }
+}
 
-    /// Adds a line with LF behind it, and answers it.
+/// The lines that an operator answered, and why he failed last.
+#[derive(Drop)]
+pub struct Answered {
+    pub lines: TakenLines,
+    pub failure: Option<OperatorFailed>,
+}
+
+impl Answered {
+    /// Nothing yet.
+    pub fn new(alloc: Global) -> Answered
+        ensures none { result.lines.bytes.items ≡ [] }
+        ensures unfailed { result.failure ≡ None }
+    {
+        Answered {
+            lines: TakenLines::new(alloc),
+            failure: None,
+        }
+    }
+
+    /// Adds a line with LF after it, and answers it.
     ///
     /// # Errors
     /// Memory was refused, and nothing is added.
     pub fn answer(&mut self, alloc: Global, line: &[u8]) -> Result<Answer, OperatorFailed>
-        ensures answer { IfOk result (λ answer. self.new.bytes.items
-            ≡ self.old.bytes.items ++ answer_bytes answer) }
-        ensures failed { OnErr result (self.new.bytes.items ≡ self.old.bytes.items) }
+        ensures line { IfOk result (IsTypedLine line.now) }
+        ensures answer { IfOk result (λ answer. self.new.lines.bytes.items
+            ≡ self.old.lines.bytes.items ++ answer_bytes answer) }
+        ensures failed { OnErr result (self.new.lines.bytes.items ≡ self.old.lines.bytes.items) }
+        ensures unnoted { self.new.failure ≡ self.old.failure }
+        ensures cause { IfErr result (λ why. why ≡ ForMemory) }
     {
-        let (Ok(line), Ok(kept)) = (Vec::from_slice(alloc, line), Vec::from_slice(alloc, line))
-        else {
-            return Err(OperatorFailed);
-        };
-        match keep(self, kept) {
-            Ok(_) => Ok(Answer::Line(line)),
-            Err(_) => Err(OperatorFailed),
+        let answered = Vec::from_slice(alloc, line)?;
+        let kept = Vec::from_slice(alloc, line)?;
+        match keep(&mut self.lines, kept) {
+            Ok(_) => Ok(Answer::Line(answered)),
+            Err(_) => Err(OperatorFailed::Memory),
         }
+    }
+
+    /// Notes why, if something failed.
+    pub fn note<T>(&mut self, done: Result<T, OperatorFailed>) -> Result<T, OperatorFailed>
+        ensures same { result ≡ done }
+        ensures lines { self.new.lines ≡ self.old.lines }
+        ensures noted { NotesFailure done self.old.failure self.new.failure }
+    {
+        if let Err(why) = &done {
+            self.failure = Some(*why);
+        }
+        done
     }
 }
 
@@ -76,7 +111,7 @@ pub struct Typist<'a, R, W: Drop> {
     left: HeldLines<'a>,
     /// Whether the text ends with a return, which belongs to its last line then.
     ends_with_return: bool,
-    taken: TakenLines,
+    taken: Answered,
     screens: Screens,
     watcher: W,
 }
@@ -92,7 +127,7 @@ impl<'a, R: Alloc<A = Global>, W: Drop> Typist<'a, R, W> {
             rt,
             left: HeldLines::of(text),
             ends_with_return: text.ends_with(b"\r"),
-            taken: TakenLines::new(rt.alloc()),
+            taken: Answered::new(rt.alloc()),
             screens,
             watcher,
         }
@@ -109,27 +144,54 @@ impl<'a, R: Alloc<A = Global>, W: Drop> Typist<'a, R, W> {
 impl<R, W: Drop> Typist<'_, R, W> {
     /// The next line, as it is typed before LF. A return just before LF is no part of a line. So behind a return that
     /// ends the text, and belongs to its last line, another one is typed.
-    fn next_line(&mut self, alloc: Global) -> Result<Option<Vec<u8>>, OperatorFailed>
+    fn next_line(&mut self, alloc: Global) -> Result<Option<Vec<u8>>, AllocError>
         ensures { self.new.taken ≡ self.old.taken }
     {
         let Some(line) = self.left.next() else {
             return Ok(None);
         };
-        let Ok(mut line) = Vec::from_slice(alloc, line) else {
-            return Err(OperatorFailed);
-        };
-        if self.ends_with_return && self.left.is_empty() && line.push(b'\r').is_err() {
-            return Err(OperatorFailed);
+        let mut line = Vec::from_slice(alloc, line)?;
+        if self.ends_with_return && self.left.is_empty() {
+            line.push(b'\r')?;
         }
         Ok(Some(line))
     }
 }
 
+impl<R: Runtime<A = Global, File = File>, W: Drop> Typist<'_, R, W> {
+    /// Writes the screen before a line that is taken now, or at the end.
+    fn write_screen(&mut self, seen: &Scene<'_>, line: Option<&[u8]>) -> Result<(), OperatorFailed>
+        ensures { self.new.taken ≡ self.old.taken }
+    {
+        let alloc = self.rt.alloc();
+        self.screens.write(alloc, seen.screen.rows(), line)
+    }
+
+    /// Types the next line, or ends the input.
+    fn type_line(&mut self, seen: &Scene<'_>) -> Result<Answer, OperatorFailed>
+        ensures answer { IfOk result (λ answer. lines_taken self.new ≡ lines_taken self.old ++ answer_bytes answer) }
+        ensures failed { OnErr result (lines_taken self.new ≡ lines_taken self.old) }
+        ensures unnoted { self.new.taken.failure ≡ self.old.taken.failure }
+    {
+        let alloc = self.rt.alloc();
+        let Some(line) = self.next_line(alloc)? else {
+            self.write_screen(seen, Some(&[]))?;
+            return Ok(Answer::End);
+        };
+        let shown = without_return(line.as_slice());
+        self.write_screen(seen, Some(shown))?;
+        self.taken.answer(alloc, line.as_slice())
+    }
+}
+
 impl<R: Runtime<A = Global, File = File>, W: Watcher + Drop> Operator for Typist<'_, R, W> {
-    ghost answered = { λ typist. typist.taken.bytes.items };
+    ghost answered = { λ typist. typist.taken.lines.bytes.items };
+
+    ghost failure = { λ typist. typist.taken.failure };
 
     fn begin(&mut self, _: &Code) -> Result<Vec<bool>, OperatorFailed> {
-        self.screens.make(self.rt)?;
+        let made = self.screens.make(self.rt);
+        self.taken.note(made)?;
         Ok(Vec::new(self.rt.alloc()))
     }
 
@@ -142,23 +204,17 @@ impl<R: Runtime<A = Global, File = File>, W: Watcher + Drop> Operator for Typist
     }
 
     fn miss(&mut self, seen: &Scene<'_>) -> Result<(), OperatorFailed> {
-        self.screens
-            .write(self.rt.alloc(), seen.screen.rows(), Some(&[]))
+        let written = self.write_screen(seen, Some(&[]));
+        self.taken.note(written)
     }
 
     fn ask(&mut self, seen: &Scene<'_>, _: usize) -> Result<Answer, OperatorFailed> {
-        let alloc = self.rt.alloc();
-        let Some(line) = self.next_line(alloc)? else {
-            self.screens.write(alloc, seen.screen.rows(), Some(&[]))?;
-            return Ok(Answer::End);
-        };
-        let shown = without_return(line.as_slice());
-        self.screens.write(alloc, seen.screen.rows(), Some(shown))?;
-        self.taken.answer(alloc, line.as_slice())
+        let answer = self.type_line(seen);
+        self.taken.note(answer)
     }
 
     fn end(&mut self, seen: &Scene<'_>) -> Result<(), OperatorFailed> {
-        self.screens
-            .write(self.rt.alloc(), seen.screen.rows(), None)
+        let written = self.write_screen(seen, None);
+        self.taken.note(written)
     }
 }

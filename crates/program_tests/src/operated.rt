@@ -1,7 +1,8 @@
 // Conversations: an operator types the lines of a run while it goes on, and a journal keeps them.
 #![tactic(auto)]
 
-ghost use Rattle.std.specs.Prelude.{◌≡◌, false};
+ghost use Rattle.operating.specs.Answers.{NotesFailure, answer_bytes};
+ghost use Rattle.std.specs.Prelude.{◌≡◌, ◌++◌, IfOk, OnErr, false};
 
 use super::cases::{CODE, are_lists, compiled};
 use super::parts::{RunCase, begins};
@@ -41,29 +42,70 @@ impl Journal for Kept {
 struct Script<'a> {
     alloc: Global,
     lines: &'a str,
-    fails: bool,
+    /// Why it fails after the last line, if it does.
+    fails: Option<OperatorFailed>,
     /// What the run goes on for before it is told again.
     part: u64,
     /// How many screens were seen before a line, and at the end.
     screens: u64,
     /// The lines that were answered.
     answers: Kept,
+    /// Why it failed last.
+    failure: Option<OperatorFailed>,
 }
 
 impl Script<'_> {
     fn look(&mut self, scene: &Scene<'_>) -> Result<(), OperatorFailed>
-        ensures { self.new.answers ≡ self.old.answers }
+        ensures answers { self.new.answers ≡ self.old.answers }
+        ensures unnoted { self.new.failure ≡ self.old.failure }
     {
         if scene.screen.rows().is_empty() {
-            return Err(OperatorFailed);
+            return Err(OperatorFailed::Other);
         }
         self.screens = self.screens.saturating_add(1);
         Ok(())
+    }
+
+    /// Answers the next line, and adds it to those that were answered.
+    fn answer(&mut self, scene: &Scene<'_>) -> Result<Answer, OperatorFailed>
+        ensures answer { IfOk result (λ answer. self.new.answers.bytes.items
+            ≡ self.old.answers.bytes.items ++ answer_bytes answer) }
+        ensures failed { OnErr result (self.new.answers.bytes.items ≡ self.old.answers.bytes.items) }
+        ensures unnoted { self.new.failure ≡ self.old.failure }
+    {
+        self.look(scene)?;
+        let Some((line, rest)) = self.lines.split_once('|') else {
+            return match self.fails {
+                Some(why) => Err(why),
+                None => Ok(Answer::End),
+            };
+        };
+        let answer = Vec::from_slice(self.alloc, line.as_bytes())?;
+        let kept = Vec::from_slice(self.alloc, line.as_bytes())?;
+        self.lines = rest;
+        match keep(&mut self.answers, kept) {
+            Ok(_) => Ok(Answer::Line(answer)),
+            Err(_) => Err(OperatorFailed::Memory),
+        }
+    }
+
+    /// Notes why, if something failed.
+    fn note<T>(&mut self, done: Result<T, OperatorFailed>) -> Result<T, OperatorFailed>
+        ensures same { result ≡ done }
+        ensures answers { self.new.answers ≡ self.old.answers }
+        ensures noted { NotesFailure done self.old.failure self.new.failure }
+    {
+        if let Err(why) = &done {
+            self.failure = Some(*why);
+        }
+        done
     }
 }
 
 impl Operator for Script<'_> {
     ghost answered = { λ script. script.answers.bytes.items };
+
+    ghost failure = { λ script. script.failure };
 
     fn begin(&mut self, _: &Code) -> Result<Vec<bool>, OperatorFailed> {
         Ok(Vec::new(self.alloc))
@@ -78,33 +120,18 @@ impl Operator for Script<'_> {
     }
 
     fn miss(&mut self, scene: &Scene<'_>) -> Result<(), OperatorFailed> {
-        self.look(scene)
+        let looked = self.look(scene);
+        self.note(looked)
     }
 
     fn ask(&mut self, scene: &Scene<'_>, _: usize) -> Result<Answer, OperatorFailed> {
-        self.look(scene)?;
-        let Some((line, rest)) = self.lines.split_once('|') else {
-            return if self.fails {
-                Err(OperatorFailed)
-            } else {
-                Ok(Answer::End)
-            };
-        };
-        let (Ok(answer), Ok(kept)) = (
-            Vec::from_slice(self.alloc, line.as_bytes()),
-            Vec::from_slice(self.alloc, line.as_bytes()),
-        ) else {
-            return Err(OperatorFailed);
-        };
-        self.lines = rest;
-        match keep(&mut self.answers, kept) {
-            Ok(_) => Ok(Answer::Line(answer)),
-            Err(_) => Err(OperatorFailed),
-        }
+        let answer = self.answer(scene);
+        self.note(answer)
     }
 
     fn end(&mut self, scene: &Scene<'_>) -> Result<(), OperatorFailed> {
-        self.look(scene)
+        let looked = self.look(scene);
+        self.note(looked)
     }
 }
 
@@ -237,6 +264,18 @@ fn is_well(
         && are_lists(alloc, &mut files, case)
 }
 
+/// Why the operator of a case fails, if he does.
+fn failure_of(case: RunCase<'_>) -> Option<OperatorFailed> {
+    if case.has("starves") {
+        return Some(OperatorFailed::Memory);
+    }
+    if case.has("fails") {
+        Some(OperatorFailed::Other)
+    } else {
+        None
+    }
+}
+
 /// Whether the conversation of a case comes to what it says.
 pub fn talks_well(alloc: Global, case: RunCase<'_>) -> bool {
     let handed = case.says("handed\n").as_bytes();
@@ -251,7 +290,7 @@ pub fn talks_well(alloc: Global, case: RunCase<'_>) -> bool {
     let mut script = Script {
         alloc,
         lines: case.says("lines "),
-        fails: case.has("fails"),
+        fails: failure_of(case),
         part: case.number("part ", u64::MAX),
         screens: 0,
         answers: Kept {
@@ -259,6 +298,7 @@ pub fn talks_well(alloc: Global, case: RunCase<'_>) -> bool {
             room: usize::MAX,
             failures: 0,
         },
+        failure: None,
     };
     is_well(alloc, handed, &mut journal, &mut script, case)
 }

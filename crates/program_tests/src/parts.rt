@@ -9,7 +9,7 @@ const WORDS: &str = "\
 absent again both budget bytes calls checked code constants cut day declarations each ended fails \
 failures faults file files filters first full handed holds index indexes kept keys lends length limit lines \
 list maps original over part parts procedures refused rehearsed room rows saved screens set shape slots sorted \
-source stack steps table tables told typed untagged untold verdict works";
+source stack starves steps table tables told typed untagged untold verdict works";
 
 /// A case: its own parts, and those that it has in common with others.
 #[derive(Clone, Copy)]

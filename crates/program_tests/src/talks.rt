@@ -93,6 +93,13 @@ Ann
 %list CUST.DBF
 NAME C 10 0
 records 0
+#memory is refused at the operator: the same, for another reason
+%starves%lines Ann|
+%told memory%screens 2%kept
+Ann
+%list CUST.DBF
+NAME C 10 0
+records 0
 #the journal fails
 %room 0%lines Ann|
 %told journal%screens 1
@@ -124,6 +131,13 @@ records 0
 #the operator of a rehearsal fails
 %rehearsed%fails%lines Ann|
 %told operator%screens 2%kept
+Ann
+%list CUST.DBF
+NAME C 10 0
+records 0
+#memory is refused at the operator of a rehearsal
+%rehearsed%starves%lines Ann|
+%told memory%screens 2%kept
 Ann
 %list CUST.DBF
 NAME C 10 0

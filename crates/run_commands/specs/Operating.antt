@@ -1,8 +1,9 @@
 -- Runs whose lines an operator types, from files to files.
-use Rattle.std.specs.Prelude.{◌≡◌, ◌≤◌, ℕ, true, List, [], length, ⊤, Result, Ok, Err}
+use Rattle.std.specs.Prelude.{◌≡◌, ◌≤◌, ℕ, true, List, [], length, ⊤, Option, Result, Ok, Err}
 use Rattle.code_items.specs.declared.code.Code.{Code}
 use Rattle.file_access.specs.Holding.{Holds, SameFiles}
-use Rattle.operating.specs.Answers.{BrokeOff}
+use Rattle.operating.specs.Answers.{BrokeOff, FailedOrNot}
+use Rattle.operating.specs.declared.operator.OperatorFailed.{OperatorFailed}
 use Rattle.run_commands.specs.declared.ending.Ended.{Ended}
 use Rattle.run_commands.specs.declared.job.Job.{Job}
 use Rattle.run_commands.specs.declared.conversation.OperateRefusal.{OperateRefusal}
@@ -61,3 +62,15 @@ abbrev pub OperationBroke : ℕ → ℕ → OperateRefusal → Type 0
 OperationBroke before after (Run refusal) = after ≡ before
 OperationBroke before after (Broke why) = BrokeOff before after why
 OperationBroke before after Handed = after ≡ before
+
+-- why the operator failed last, before and after a refused conversation: the failure is why it broke off, or it stays
+abbrev pub RefusalFails : Option OperatorFailed → Option OperatorFailed → OperateRefusal → Type 0
+RefusalFails before after (Run refusal) = after ≡ before
+RefusalFails before after (Broke why) = FailedOrNot before after why
+RefusalFails before after Handed = after ≡ before
+
+-- the same of any conversation: where it isn't refused, the operator didn't fail
+abbrev pub OperationFails : {A : Type 0} → Result A OperateRefusal → Option OperatorFailed → Option OperatorFailed
+    → Type 0
+OperationFails (Ok done) before after = after ≡ before
+OperationFails (Err refusal) before after = RefusalFails before after refusal

@@ -7,8 +7,8 @@ ghost use Rattle.operating.specs.Answers.{AnswersKept, LastUnkept};
 ghost use Rattle.run_commands.specs.declared.job.Job.{Job as AnyJob};
 ghost use Rattle.run_commands.specs.declared.refusal.RunRefusal.TheVariants.{Memory};
 ghost use Rattle.run_commands.specs.declared.conversation.OperateRefusal.TheVariants.{Handed};
-ghost use Rattle.run_commands.specs.Operating.{IfOfRun, IsNoBeginning, IsWith, OperationBroke, OperationRefused};
-ghost use Rattle.run_commands.specs.Operating.{SameResult, SoundOver};
+ghost use Rattle.run_commands.specs.Operating.{IfOfRun, IsNoBeginning, IsWith, OperationBroke, OperationFails};
+ghost use Rattle.run_commands.specs.Operating.{OperationRefused, SameResult, SoundOver};
 ghost use Rattle.run_steps.specs.Shapes.{StoreFits};
 ghost use Rattle.run_commands.specs.Parts.{CodeStopped, CodeRefused, IsOfTables, Stopped};
 ghost use Rattle.run_commands.specs.Reports.{CodeRan, HasRun, IsSavedRun, RefusedBefore, SavingStopped};
@@ -119,6 +119,7 @@ pub(crate) fn operate_accepted<J: Journal, O: Operator>(
         (J.holds journal.old) (J.holds journal.new)) }
     ensures unfailed { OnOk result (J.failed journal.new ≡ J.failed journal.old) }
     ensures broke { IfErr result (OperationBroke (J.failed journal.old) (J.failed journal.new)) }
+    ensures cause { OperationFails result (O.failure operator.old) (O.failure operator.new) }
 {
     let day = job.day.day();
     let talk = converse(
@@ -165,6 +166,7 @@ fn full_operation<F: Files, J: Journal, O: Operator>(
         (J.holds journal.old) (J.holds journal.new)) }
     ensures unfailed { OnOk result (J.failed journal.new ≡ J.failed journal.old) }
     ensures broke { IfErr result (OperationBroke (J.failed journal.old) (J.failed journal.new)) }
+    ensures cause { OperationFails result (O.failure operator.old) (O.failure operator.new) }
 {
     legal_codes();
     new_stores_fit();
@@ -206,6 +208,7 @@ fn operate_code<F: Files, J: Journal, O: Operator>(
         (J.holds journal.old) (J.holds journal.new)) }
     ensures unfailed { OnOk result (J.failed journal.new ≡ J.failed journal.old) }
     ensures broke { IfErr result (OperationBroke (J.failed journal.old) (J.failed journal.new)) }
+    ensures cause { OperationFails result (O.failure operator.old) (O.failure operator.new) }
 {
     let verified = accept(alloc, code)?;
     full_operation(alloc, files, &verified, job, most, journal, operator)
@@ -241,6 +244,7 @@ fn operate_read<F: Files, J: Journal, O: Operator>(
         (J.holds journal.old) (J.holds journal.new)) }
     ensures unfailed { OnOk result (J.failed journal.new ≡ J.failed journal.old) }
     ensures broke { IfErr result (OperationBroke (J.failed journal.old) (J.failed journal.new)) }
+    ensures cause { OperationFails result (O.failure operator.old) (O.failure operator.new) }
 {
     match read_code(alloc, files, job.name) {
         Ok(code) => operate_code(alloc, files, code, job, most, journal, operator),
@@ -264,8 +268,9 @@ fn told(run: Result<Ended, RunRefusal>) -> Result<Ended, OperateRefusal>
 /// before the run sees it. Behind the end of the input each further line is empty. What is printed and saved is what
 /// `run_files` prints and saves for the same job with what the journal holds then as its input. Where the operator or
 /// the journal fails, or a line isn't one, nothing is printed or saved. `Broken::Journal` is answered only where the
-/// journal failed and counted that. All lines together have at most `most` bytes, each with its end: where a line would
-/// pass that, the end of the input alone is left to answer.
+/// journal failed and counted that, and `Broken::Operator` only where the operator failed, and not for want of memory.
+/// All lines together have at most `most` bytes, each with its end: where a line would pass that, the end of the input
+/// alone is left to answer.
 pub fn operate_files<F: Files, J: Journal, O: Operator>(
     alloc: Global,
     files: &mut F,
@@ -294,6 +299,7 @@ pub fn operate_files<F: Files, J: Journal, O: Operator>(
         (J.holds journal.old) (J.holds journal.new)) }
     ensures unfailed { OnOk result.result (J.failed journal.new ≡ J.failed journal.old) }
     ensures broke { IfErr result.result (OperationBroke (J.failed journal.old) (J.failed journal.new)) }
+    ensures cause { OperationFails result.result (O.failure operator.old) (O.failure operator.new) }
 {
     if !can_go_on(job.input, most) {
         return OperationReport {

@@ -6,7 +6,7 @@ ghost use Rattle.file_access.specs.Holding.{Rose, SameFiles};
 ghost use Rattle.file_commands.specs.Reports.{HasCode};
 ghost use Rattle.operating.specs.Answers.{AnswersKept, LastUnkept};
 ghost use Rattle.run_commands.specs.declared.job.Job.{Job as AnyJob};
-ghost use Rattle.run_commands.specs.Operating.{IfOfRun, IfOfTalk, IsWith, OperationBroke};
+ghost use Rattle.run_commands.specs.Operating.{IfOfRun, IfOfTalk, IsWith, OperationBroke, OperationFails};
 ghost use Rattle.run_commands.specs.Parts.{CodeRefused, IsOfTables};
 ghost use Rattle.run_commands.specs.Rehearsals.{IsRehearsed, LeavesTables};
 ghost use Rattle.run_commands.specs.Reports.{RefusedBefore};
@@ -55,6 +55,7 @@ fn compare_talk<F: Files, J: Journal, O: Operator>(
         (J.holds journal.old) (J.holds journal.new)) }
     ensures unfailed { OnOk result (J.failed journal.new ≡ J.failed journal.old) }
     ensures broke { IfErr result (OperationBroke (J.failed journal.old) (J.failed journal.new)) }
+    ensures cause { OperationFails result (O.failure operator.old) (O.failure operator.new) }
 {
     legal_codes();
     new_stores_fit();
@@ -93,6 +94,7 @@ fn rehearse_accepted_talk<F: Files, J: Journal, O: Operator>(
         (J.holds journal.old) (J.holds journal.new)) }
     ensures unfailed { OnOk result (J.failed journal.new ≡ J.failed journal.old) }
     ensures broke { IfErr result (OperationBroke (J.failed journal.old) (J.failed journal.new)) }
+    ensures cause { OperationFails result (O.failure operator.old) (O.failure operator.new) }
 {
     let shape = &verified.code().declared.shape;
     let done = compare_talk(alloc, files, verified, job, most, journal, operator)?;
@@ -129,6 +131,7 @@ fn rehearse_code_talk<F: Files, J: Journal, O: Operator>(
         (J.holds journal.old) (J.holds journal.new)) }
     ensures unfailed { OnOk result (J.failed journal.new ≡ J.failed journal.old) }
     ensures broke { IfErr result (OperationBroke (J.failed journal.old) (J.failed journal.new)) }
+    ensures cause { OperationFails result (O.failure operator.old) (O.failure operator.new) }
 {
     let verified = accept(alloc, code)?;
     rehearse_accepted_talk(alloc, files, &verified, job, most, journal, operator)
@@ -166,6 +169,7 @@ pub fn rehearse_talk<F: Files, J: Journal, O: Operator>(
         (J.holds journal.old) (J.holds journal.new)) }
     ensures unfailed { OnOk result (J.failed journal.new ≡ J.failed journal.old) }
     ensures broke { IfErr result (OperationBroke (J.failed journal.old) (J.failed journal.new)) }
+    ensures cause { OperationFails result (O.failure operator.old) (O.failure operator.new) }
 {
     if !can_go_on(job.input, most) {
         return Err(OperateRefusal::Handed);

@@ -1,2 +1,4 @@
 pub mod Rules
 pub mod Overwriting
+pub mod Recorded
+pub mod Unchanged

@@ -12,9 +12,20 @@ use Rattle.save_rules.specs.declared.rules.User.{User}
 abbrev pub is_one_of : ℕ → List ℕ → Bool
 is_one_of group groups = list_any (λ other. other == group) groups
 
--- whether a user may give a file this group
-abbrev pub may_give : User → ℕ → Bool
-may_give user group = user.group == group || is_one_of group user.groups.now
+-- whether a user is in a group
+abbrev pub is_member : User → ℕ → Bool
+is_member user group = user.group == group || is_one_of group user.groups.now
+
+-- The permission bits of the rights to write a folder and to search it (300, 30 and 3 in octal). The owner has those of
+-- the owner, also where they are fewer; a member of the group has those of the group; all others have the last.
+unfoldable pub bits_needed : FileFolder → User → ℕ
+bits_needed folder user =
+    if user.id == folder.owner then 192 else (if is_member user folder.group then 24 else 3)
+
+-- whether a user may make files in a folder: permission bits don't bind the user, or they give both rights
+unfoldable pub may_make_files : FileFolder → User → Bool
+may_make_files folder user =
+    user.overrides_modes || bit_and folder.mode (bits_needed folder user) == bits_needed folder user
 
 -- whether the folder's sticky bit keeps a user from renaming a file: neither is theirs, and they don't act for owners
 abbrev pub is_guarded : Standing → FileFolder → User → Bool
@@ -35,7 +46,7 @@ harm_of file folder user takes_over =
     (if is_guarded file folder user then Some Guarded else
     (if takes_over || user.gives_away then None else
     (if not (user.id == file.owner) then Some Owner else
-    (if not (may_give user file.group) then Some Group else None)))))))
+    (if not (is_member user file.group) then Some Group else None)))))))
 
 abbrev pub leads_away : ℕ → Bool
 leads_away byte = byte == 47 || byte == 0

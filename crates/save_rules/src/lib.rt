@@ -3,7 +3,13 @@
 #![tactic(auto)]
 
 mod overwriting;
+mod recorded;
 mod rules;
+mod unchanged;
 
 pub use overwriting::{Overwritten, overwritten_by};
-pub use rules::{FileFolder, Harm, Standing, User, harm_of, is_beside, is_in_folder};
+pub use recorded::{MOST_RECORDED, Recorded, may_be_recorded, recorded_as};
+pub use rules::{
+    FileFolder, Harm, Standing, User, harm_of, is_beside, is_in_folder, may_make_files,
+};
+pub use unchanged::{HandedIn, files_replaced};

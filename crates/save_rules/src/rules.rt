@@ -26,6 +26,7 @@ pub struct FileFolder {
     /// Its permission bits.
     pub mode: u32,
     pub owner: u32,
+    pub group: u32,
     /// The device on which it lies.
     pub device: u64,
 }
@@ -41,6 +42,8 @@ pub struct User<'a> {
     pub gives_away: bool,
     /// Whether this user may do with each file what its owner may.
     pub acts_for_owners: bool,
+    /// Whether permission bits don't bind this user.
+    pub overrides_modes: bool,
 }
 
 /// Why a file can't be replaced as it was.
@@ -69,11 +72,36 @@ fn is_one_of(group: u32, groups: &[u32]) -> bool
     groups.iter().any(|other| *other == group)
 }
 
-/// Whether a user may give a file this group.
-fn may_give(user: &User<'_>, group: u32) -> bool
-    ensures { result ≡ spec.may_give user.now group }
+/// Whether a user is in a group.
+fn is_member(user: &User<'_>, group: u32) -> bool
+    ensures { result ≡ spec.is_member user.now group }
 {
     user.group == group || is_one_of(group, user.groups)
+}
+
+/// The permission bits that a user needs to write a folder and to search it: those of the owner, else those of the
+/// group's members, else those of the others.
+#[tactic(auto, unfolding(crate::specs::Rules::bits_needed))]
+fn bits_needed(folder: &FileFolder, user: &User<'_>) -> u32
+    ensures { result ≡ spec.bits_needed folder.now user.now }
+{
+    if user.id == folder.owner {
+        return 0o300;
+    }
+    if is_member(user, folder.group) {
+        return 0o030;
+    }
+    0o003
+}
+
+/// Whether permission bits let a user make, rename and remove files in a folder. They don't tell of a file system that
+/// is read-only.
+#[tactic(auto, unfolding(crate::specs::Rules::may_make_files))]
+pub fn may_make_files(folder: &FileFolder, user: &User<'_>) -> bool
+    ensures { result ≡ spec.may_make_files folder.now user.now }
+{
+    let needed = bits_needed(folder, user);
+    user.overrides_modes || folder.mode & needed == needed
 }
 
 /// Whether a folder with the sticky bit keeps a user from renaming a file that isn't theirs.
@@ -118,7 +146,7 @@ pub fn harm_of(
     if user.id != file.owner {
         return Some(Harm::Owner);
     }
-    if !may_give(user, file.group) {
+    if !is_member(user, file.group) {
         return Some(Harm::Group);
     }
     None

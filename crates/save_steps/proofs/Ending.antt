@@ -1,58 +1,76 @@
--- What the next command makes of what stands.
-use Rattle.std.proofs.Common.{◌≡◌, ◌⊎◌, inl, inr, ℕ, zero, suc, false, List, [], ◌∷◌, ◌++◌, Some, None, length, map}
+-- What commands make of a save that was stopped, or that met a power cut.
+use Rattle.std.proofs.Common.{◌≡◌, ◌⊎◌, inl, inr, ℕ, zero, suc, false, List, [], ◌∷◌, ◌++◌, Some, length, map}
 use Rattle.std.proofs.Common.{slice_get, refl, sym, ◌∙◌, ap, subst}
 use Rattle.std.specs.List.{AllByRecursion, list_any}
 use Rattle.std.specs.Option.{option_map}
 use Rattle.std.proofs.lemmas.List.{length-map}
-use Rattle.std.proofs.lemmas.Option.{same_Some, slice_get_within}
+use Rattle.std.proofs.lemmas.Option.{same_Some}
 use Rattle.save_steps.specs.declared.slots.Slot.TheVariants.{Waiting, Placed}
 use Rattle.save_steps.specs.declared.steps.Paper.{Paper}
-use Rattle.save_steps.specs.declared.steps.Paper.TheVariants.{Absent, Plan}
+use Rattle.save_steps.specs.declared.steps.Paper.TheVariants.{Absent}
 use Rattle.save_steps.specs.declared.steps.Step.{Step}
-use Rattle.save_steps.specs.declared.steps.Step.TheVariants.{Make, Sync, WriteNote, Place, Unmake, RemovePaper}
-use Rattle.save_steps.specs.declared.steps.Step.TheVariants.{RemoveDraft}
+use Rattle.save_steps.specs.declared.steps.Step.TheVariants.{WritePlan, Make, Sync, WriteNote, Place, Unmake}
+use Rattle.save_steps.specs.declared.steps.Step.TheVariants.{RemovePaper, RemoveDraft}
+use Rattle.save_steps.specs.Devices.{NameChange, with_all, WithSome, Disk, synced, IsPowerCut, IsPending, MakesInPart, DidOn}
+use Rattle.save_steps.specs.Devices.{MayLeaveOn, DidAllOn, BreaksOff}
 use Rattle.save_steps.specs.Finishing.{finish_of, is_foreign}
-use Rattle.save_steps.specs.Folders.{FolderStands, Renewal, NamesAreApart, Same, Did, DidAll, MayLeave, StopsAt}
-use Rattle.save_steps.specs.Points.{IsReady, IsAllOld, IsPlaced, IsAllNew, slot_now, next_steps, StopsAgain, NextEnds}
-use Rattle.save_steps.specs.Points.{IsAllOrNothing}
-use Rattle.save_steps.specs.Steps.{make_steps, places, unmakes, plan_steps, place_steps, save_steps, back_steps}
-use Rattle.save_steps.specs.Steps.{on_steps, without_steps}
-use Rattle.save_steps.proofs.Runs.{did_cut, stops_cut, KeepsWhole, Keeps, all_and, all_each, did_keeps, stops_keeps}
-use Rattle.save_steps.proofs.Can.{can_all, on_within, back_within, without_within, save_within}
+use Rattle.save_steps.specs.Folders.{FolderStands, Renewal, NamesAreApart, Same, Did, DidInPart}
+use Rattle.save_steps.specs.Points.{IsReady, IsPlaced, slot_now, next_steps}
+use Rattle.save_steps.specs.PowerCuts.{IsAtRest, EndsWith, BreakOffAgain, NextCompletes, EndsForGood, SurvivesPowerCuts}
+use Rattle.save_steps.specs.Steps.{places, unmakes, plan_steps, end_steps, place_steps, save_steps, back_steps}
+use Rattle.save_steps.specs.Steps.{on_steps, make_steps, without_steps}
+use Rattle.save_steps.proofs.Runs.{did_cut, leads_to, leads_within}
+use Rattle.save_steps.proofs.Can.{IsWithin, can_all, on_within, back_within, without_within, save_within}
 use Rattle.save_steps.proofs.Judged.{waits, is_placed, none_foreign}
-use Rattle.save_steps.proofs.Kept.{IsPlanned, IsNoted, IsWaiting, IsBefore, IsBehind, old_same, planned_same}
-use Rattle.save_steps.proofs.Kept.{noted_same, make_keeps, unmake_keeps, sync_keeps, draft_keeps, draft_keeps_old}
-use Rattle.save_steps.proofs.Kept.{draft_keeps_new, draft_keeps_noted, sync_keeps_noted, all_made, all_unmade}
-use Rattle.save_steps.proofs.Kept.{place_keeps, places_keep, all_placed, HoldBeside, ArePlaced}
+use Rattle.save_steps.proofs.Kept.{IsWaiting, old_same, new_same, noted_with_same, done_new, old_fixed, new_fixed}
+use Rattle.save_steps.proofs.Held.{IsHeld, held_weaker, all_some, part_held}
+use Rattle.save_steps.proofs.Chains.{Implies, LeadsOn, Old, Planned, Noted, New, AllMade, Before, Behind, Unsure}
+use Rattle.save_steps.proofs.Chains.{OnBefore, OnBehind, OnUnsure, before_same, behind_same, without_leads}
+use Rattle.save_steps.proofs.Chains.{back_leads, on_leads, places_lead, place_leads, plan_leads, note_moves}
+use Rattle.save_steps.proofs.Chains.{note_leads, save_leads, InPlace}
 
 -- ---- no draft is left
 
--- the step leaves the draft alone
-abbrev KeepsDraft : List Renewal → Step → Type 0
-KeepsDraft cs = KeepsWhole cs (λ s. s.draft ≡ false)
+module _ (cs : List Renewal) where
+  draft_kept : (x : Step) (s t : FolderStands) → Did cs x s t → s.draft ≡ false → t.draft ≡ false
+  draft_kept WritePlan s t did e = did.1
+  draft_kept (Make k) s t did e = did.0.1 ∙ e
+  draft_kept Sync s t did e = did.0.1 ∙ e
+  draft_kept WriteNote s t did e = did.1
+  draft_kept (Place k) s t did e = did.0.1 ∙ e
+  draft_kept (Unmake k) s t did e = did.0.1 ∙ e
+  draft_kept RemoveDraft s t did e = did.1
+  draft_kept RemovePaper s t did e = did.1 ∙ e
 
-no_draft : (cs : List Renewal) (steps : List Step) (s t : FolderStands) → AllByRecursion (KeepsDraft cs) steps
-    → DidAll cs (RemoveDraft ∷ steps) s t → t.draft ≡ false
-no_draft cs steps s t keeps (m, (paper, draft, same), rest) =
-    did_keeps cs (λ s. s.draft ≡ false) steps m t keeps draft rest
+  drafts_kept : (xs : List Step) (d e : Disk) → DidAllOn cs xs d e → d.seen.draft ≡ false → e.seen.draft ≡ false
+  drafts_kept [] d e h q = subst (λ (x : Disk). x.seen.draft ≡ false) (sym h) q
+  drafts_kept (x ∷ xs) d e (m, did, rest) q =
+      drafts_kept xs m e rest (draft_kept x d.seen m.seen did.is.seen q)
 
-back_draft : (cs : List Renewal) (n : ℕ) → AllByRecursion (KeepsDraft cs) (unmakes n ++ Sync ∷ RemovePaper ∷ [])
-back_draft cs n = all_and (KeepsDraft cs) (unmakes n) (Sync ∷ RemovePaper ∷ [])
-    (all_each (KeepsDraft cs) Unmake n (λ k s t e did. did.0.1 ∙ e))
-    ((λ s t e did. did.0.1 ∙ e), ((λ s t e did. did.1 ∙ e), tt))
+  no_draft : (front rest : List Step) (d e : Disk) → DidAllOn cs (front ++ RemoveDraft ∷ rest) d e
+      → e.seen.draft ≡ false
+  no_draft front rest d e h = after (did_cut (DidOn cs) (MayLeaveOn cs) front (RemoveDraft ∷ rest) d e h)
+    where
+      after : (m : Disk) × DidAllOn cs front d m × DidAllOn cs (RemoveDraft ∷ rest) m e → e.seen.draft ≡ false
+      after (m, all, (w, did, others)) = drafts_kept rest w e others did.is.seen.1
 
-on_draft : (cs : List Renewal) (n : ℕ) → AllByRecursion (KeepsDraft cs) (place_steps n)
-on_draft cs n = all_and (KeepsDraft cs) (places n) (Sync ∷ RemovePaper ∷ [])
-    (all_each (KeepsDraft cs) Place n (λ k s t e did. did.0.1 ∙ e))
-    ((λ s t e did. did.0.1 ∙ e), ((λ s t e did. did.1 ∙ e), tt))
+-- ---- a power cut
 
-module _ (sum : List ℕ → List ℕ) (cs : List Renewal) (start : FolderStands) where
+-- what the device has after a cut is seen
+rests : {P L : FolderStands → Type 0} → Implies P L → (d e : Disk) → IsPowerCut d e → P e.kept → IsHeld P L e
+rests {P} {L} wider d e cut p = record {
+  seen = subst P (sym cut.seen) p;
+  next = subst (λ (ms : List NameChange). P (with_all ms e.kept)) (sym cut.pending) p;
+  left = λ t some. wider t (subst P (sym (subst (λ (ms : List NameChange). WithSome ms e.kept t) cut.pending some)) p);
+}
+
+module _ (sum : List ℕ → List ℕ) (cs : List Renewal) (apart : NamesAreApart cs) (start : FolderStands) where
   -- ---- which steps the next command takes
 
   known_absent : (s : FolderStands) → s.paper ≡ Absent → next_steps sum cs s ≡ Some without_steps
   known_absent s e = ap (λ (p : Paper). finish_of p (map (slot_now sum s) cs)) e
 
-  known_planned : (s : FolderStands) → IsPlanned cs start s → next_steps sum cs s ≡ Some (back_steps (length cs))
+  known_planned : (s : FolderStands) → Planned cs apart start s → next_steps sum cs s ≡ Some (back_steps (length cs))
   known_planned s p = ap (λ (p : Paper). finish_of p (map (slot_now sum s) cs)) p.paper
       ∙ ap (λ (n : ℕ). Some (back_steps n)) (length-map cs (slot_now sum s))
 
@@ -62,300 +80,243 @@ module _ (sum : List ℕ → List ℕ) (cs : List Renewal) (start : FolderStands
   placed_fits : (s : FolderStands) (c : Renewal) → IsPlaced s c → slot_now sum s c ≡ Placed
   placed_fits s c (name, beside) = rw (name, beside) (is_placed (option_map sum c.old) (sum c.new))
 
-  fits : (s : FolderStands) → IsNoted cs start s → (k : ℕ) (c : Renewal) → slice_get cs k ≡ Some c
+  fits : (s : FolderStands) → Noted cs apart start s → (k : ℕ) (c : Renewal) → slice_get cs k ≡ Some c
       → is_foreign (slot_now sum s c) ≡ false
   fits s p k c at = elim (p.each k c at) [
     | inl waiting ↦ ap is_foreign (waiting_fits s c waiting)
     | inr placed ↦ ap is_foreign (placed_fits s c placed)
   ]
 
-  known_noted : (s : FolderStands) → IsNoted cs start s → next_steps sum cs s ≡ Some (on_steps (length cs))
+  known_noted : (s : FolderStands) → Noted cs apart start s → next_steps sum cs s ≡ Some (on_steps (length cs))
   known_noted s p =
       let none : list_any is_foreign (map (slot_now sum s) cs) ≡ false = none_foreign (slot_now sum s) cs (fits s p) in
       ap (λ (p : Paper). finish_of p (map (slot_now sum s) cs)) p.paper
       ∙ rw none (ap (λ (n : ℕ). Some (on_steps n)) (length-map cs (slot_now sum s)))
 
-  module _ (apart : NamesAreApart cs) where
-    -- ---- a planned save taken away
+  -- ---- commands in turn
 
-    freed : (s : FolderStands) → HoldBeside cs (λ _. None) (length cs) s → (k : ℕ) (c : Renewal)
-        → slice_get cs k ≡ Some c
-        → s.file c.beside ≡ None
-    freed s h k c at = h k c (slice_get_within cs k c at) at
+  -- the next command knows its steps, which lead to Q, and all that breaks off leaves X
+  abbrev Knows : (Disk → Type 0) → (Disk → Type 0) → Disk → Type 0
+  Knows X Q e = (steps : List Step) × (next_steps sum cs e.seen ≡ Some steps) × LeadsOn cs X steps (λ d. d ≡ e) Q
+      × AllByRecursion (IsWithin (length cs)) steps
 
-    gone_old : (s t : FolderStands) → IsPlanned cs start s → HoldBeside cs (λ _. None) (length cs) s → t.paper ≡ Absent
-        → Same s.file t.file → IsAllOld cs start t
-    gone_old s t p h e same = record {
-      paper = e;
-      free = λ k c at. same c.beside ∙ freed s h k c at;
-      others = λ n free. same n ∙ p.others n free;
-    }
+  broke : {X P Q : Disk → Type 0} → ((d e : Disk) → X d → IsPowerCut d e → X e) → (steps : List Step)
+      → LeadsOn cs X steps P Q → (d e : Disk) → P d → BreaksOff cs steps d e → X e
+  broke cut steps leads d e p (inl stops) = leads.short d e p stops
+  broke cut steps leads d e p (inr (m, stops, is)) = cut m e (leads.short d m p stops) is
 
-    free_same : (s t : FolderStands) → HoldBeside cs (λ _. None) (length cs) s → Same s.file t.file
-        → HoldBeside cs (λ _. None) (length cs) t
-    free_same s t h same k c below at = same c.beside ∙ h k c below at
+  module _ {X Q : Disk → Type 0} (cut : (d e : Disk) → X d → IsPowerCut d e → X e) (knows : (e : Disk) → X e → Knows X Q e)
+    where
+      again : (n : ℕ) (d e : Disk) → X d → BreakOffAgain sum cs n d e → X e
+      again zero d e x h = subst X (sym h) x
+      again (suc n) d e x (m, steps, is, off, rest) =
+          let k = knows d x in
+          let same : steps ≡ k.0 = same_Some steps k.0 (sym is ∙ k.1) in
+          again n m e (broke cut k.0 k.2 d m refl (subst (λ (xs : List Step). BreaksOff cs xs d m) same off)) rest
 
-    unmakes_keep : (s t : FolderStands) → IsPlanned cs start s → DidAll cs (RemoveDraft ∷ unmakes (length cs)) s t
-        → IsPlanned cs start t
-    unmakes_keep s t p h = did_keeps cs (IsPlanned cs start) (RemoveDraft ∷ unmakes (length cs)) s t (
-      (λ a b q did. draft_keeps cs start a b q (inr did)),
-      all_each (KeepsWhole cs (IsPlanned cs start)) Unmake (length cs)
-          (λ k a b q did. unmake_keeps cs start k a b q (inr did)),
-    ) p h
+      completes : (d : Disk) → X d → NextCompletes sum cs d Q
+      completes d x n e h =
+          let k = knows e (again n d e x h) in
+          (k.0, k.1, can_all cs apart k.0 k.3 e, λ u all. k.2.whole e u refl all)
 
-    unmakes_free : (s t : FolderStands) → DidAll cs (RemoveDraft ∷ unmakes (length cs)) s t
-        → HoldBeside cs (λ _. None) (length cs) t
-    unmakes_free s t (m, did, rest) = all_unmade cs start apart (length cs) m t rest
+  -- steps that lead to T, and remove a draft on the way, end with it
+  ending : {T : FolderStands → Type 0} {X P Y : Disk → Type 0}
+      → ((s t : FolderStands) → T s → T t → (t.paper ≡ s.paper) × Same s.file t.file)
+      → ((u : Disk) → IsHeld T T u → Y u) → (front rest : List Step)
+      → LeadsOn cs X (front ++ RemoveDraft ∷ rest) P (IsHeld T T) → (e : Disk) → P e
+      → LeadsOn cs X (front ++ RemoveDraft ∷ rest) (λ d. d ≡ e) (λ u. EndsWith T u × Y u)
+  ending {P = P} fixed stays front rest leads e p = record {
+    whole = λ d u is all.
+        let held = leads.whole d u (subst P (sym is) p) all in (
+          record {
+            now = held.seen;
+            draft = no_draft cs front rest d u all;
+            rest = λ t some. fixed u.seen t held.seen (held.left t some);
+          },
+          stays u held,
+        );
+    short = λ d u is stops. leads.short d u (subst P (sym is) p) stops;
+  }
 
-    back_stops : (s t : FolderStands) → IsPlanned cs start s → StopsAt cs (back_steps (length cs)) s t
-        → IsBefore cs start t
-    back_stops s t p h = elim (stops_cut cs (RemoveDraft ∷ unmakes (length cs)) (Sync ∷ RemovePaper ∷ []) s t h) [
-      | inl within ↦ inr (stops_keeps cs (IsPlanned cs start) (RemoveDraft ∷ unmakes (length cs)) s t
-          (draft_keeps cs start, all_each (Keeps cs (IsPlanned cs start)) Unmake (length cs) (unmake_keeps cs start)) p
-          within)
-      | inr (m, did, last) ↦ last_stops m t (unmakes_keep s m p did) (unmakes_free s m did) last
-    ]
-      where
-        paper_stops : (s t : FolderStands) → IsPlanned cs start s → HoldBeside cs (λ _. None) (length cs) s
-            → StopsAt cs (RemovePaper ∷ []) s t → IsBefore cs start t
-        paper_stops s t p h (inl (inl (paper, same))) = inr (planned_same cs start s t p paper same)
-        paper_stops s t p h (inl (inr (paper, draft, same))) = inl (gone_old s t p h paper same)
-        paper_stops s t p h (inr (m, (paper, draft, same), e)) =
-            inl (subst (IsAllOld cs start) (sym e) (gone_old s m p h paper same))
+  abbrev EndOld : Disk → Type 0
+  EndOld u = EndsWith (Old cs apart start) u × OnBefore cs apart start u
 
-        last_stops : (s t : FolderStands) → IsPlanned cs start s → HoldBeside cs (λ _. None) (length cs) s
-            → StopsAt cs (Sync ∷ RemovePaper ∷ []) s t → IsBefore cs start t
-        last_stops s t p h (inl left) = inr (sync_keeps cs start s t p left)
-        last_stops s t p h (inr (m, (papers, same), rest)) =
-            paper_stops m t (planned_same cs start s m p papers.0 same) (free_same s m h same) rest
+  abbrev EndNew : Disk → Type 0
+  EndNew u = EndsWith (New cs apart start) u × OnBehind cs apart start u
 
-    back_whole : (s t : FolderStands) → IsPlanned cs start s → DidAll cs (back_steps (length cs)) s t
-        → IsAllOld cs start t
-    back_whole s t p h = ended (did_cut cs (RemoveDraft ∷ unmakes (length cs)) (Sync ∷ RemovePaper ∷ []) s t h)
-      where
-        ended : (m : FolderStands) × DidAll cs (RemoveDraft ∷ unmakes (length cs)) s m
-            × DidAll cs (Sync ∷ RemovePaper ∷ []) m t
-            → IsAllOld cs start t
-        ended (m, did, (w, (papers, same), (v, (paper, draft, alike), e))) =
-            let planned = planned_same cs start m w (unmakes_keep s m p did) papers.0 same in
-            let free = free_same m w (unmakes_free s m did) same in
-            subst (IsAllOld cs start) (sym e) (gone_old w v planned free paper alike)
+  old_stays : (u : Disk) → IsHeld (Old cs apart start) (Old cs apart start) u → OnBefore cs apart start u
+  old_stays u h = inl (held_weaker (λ s p. p) (λ s p. inl p) u h)
 
-    -- ---- a noted save carried to its end
+  knows_before : (e : Disk) → OnBefore cs apart start e → Knows (OnBefore cs apart start) EndOld e
+  knows_before e (inl old) = (
+    without_steps,
+    known_absent e.seen old.seen.paper,
+    ending (old_fixed cs start apart) old_stays [] (Sync ∷ [])
+        (without_leads cs apart (old_same cs start) (before_same cs apart start) (λ s p. inl p) (λ d h. inl h)) e old,
+    without_within (length cs),
+  )
+  knows_before e (inr planned) = (
+    back_steps (length cs),
+    known_planned e.seen planned.seen,
+    ending (old_fixed cs start apart) old_stays [] (unmakes (length cs) ++ end_steps) (back_leads cs apart start) e
+        planned,
+    back_within (length cs),
+  )
 
-    done_new : (s t : FolderStands) → IsNoted cs start s → ArePlaced cs (length cs) s → t.paper ≡ Absent
-        → Same s.file t.file → IsAllNew cs start t
-    done_new s t p h e same = record {
-      paper = e;
-      each = λ k c at. let placed = h k c (slice_get_within cs k c at) at in
-          (same c.name ∙ placed.0, same c.beside ∙ placed.1);
-      others = λ n free. same n ∙ p.others n free;
-    }
+  new_stays : (u : Disk) → IsHeld (New cs apart start) (New cs apart start) u → OnBehind cs apart start u
+  new_stays u h = inr (held_weaker (λ s p. p) (λ s p. inr p) u h)
 
-    placed_same : (s t : FolderStands) → ArePlaced cs (length cs) s → Same s.file t.file → ArePlaced cs (length cs) t
-    placed_same s t h same k c below at = (same c.name ∙ (h k c below at).0, same c.beside ∙ (h k c below at).1)
+  knows_behind : (e : Disk) → OnBehind cs apart start e → Knows (OnBehind cs apart start) EndNew e
+  knows_behind e (inr new) = (
+    without_steps,
+    known_absent e.seen new.seen.paper,
+    ending (new_fixed cs start apart) new_stays [] (Sync ∷ [])
+        (without_leads cs apart (new_same cs start) (behind_same cs apart start) (λ s p. inr p) (λ d h. inr h)) e new,
+    without_within (length cs),
+  )
+  knows_behind e (inl noted) = (
+    on_steps (length cs),
+    known_noted e.seen noted.seen,
+    ending (new_fixed cs start apart) new_stays (Sync ∷ []) (place_steps (length cs))
+        (on_leads cs apart start (Noted cs apart start) (λ s p. p) (OnBehind cs apart start) (λ d h. inl h) (λ d h. h))
+        e noted,
+    on_within (length cs),
+  )
 
-    pub place_stops : (s t : FolderStands) → IsNoted cs start s → StopsAt cs (place_steps (length cs)) s t
-        → IsBehind cs start t
-    place_stops s t p h = elim (stops_cut cs (places (length cs)) (Sync ∷ RemovePaper ∷ []) s t h) [
-      | inl within ↦ inl (stops_keeps cs (IsNoted cs start) (places (length cs)) s t
-          (all_each (Keeps cs (IsNoted cs start)) Place (length cs) (place_keeps cs start apart)) p within)
-      | inr (m, did, last) ↦ last_stops m t (places_keep cs start apart (length cs) s m p did)
-          (all_placed cs start apart (length cs) s m p did) last
-    ]
-      where
-        paper_stops : (s t : FolderStands) → IsNoted cs start s → ArePlaced cs (length cs) s
-            → StopsAt cs (RemovePaper ∷ []) s t → IsBehind cs start t
-        paper_stops s t p h (inl (inl (paper, same))) = inl (noted_same cs start s t p paper same)
-        paper_stops s t p h (inl (inr (paper, draft, same))) = inr (done_new s t p h paper same)
-        paper_stops s t p h (inr (m, (paper, draft, same), e)) =
-            inr (subst (IsAllNew cs start) (sym e) (done_new s m p h paper same))
+  cut_before : (d e : Disk) → OnBefore cs apart start d → IsPowerCut d e → OnBefore cs apart start e
+  cut_before d e h cut = at (left h)
+    where
+      left : OnBefore cs apart start d → Before cs apart start e.kept
+      left (inl h) = h.left e.kept cut.kept
+      left (inr h) = h.left e.kept cut.kept
 
-        last_stops : (s t : FolderStands) → IsNoted cs start s → ArePlaced cs (length cs) s
-            → StopsAt cs (Sync ∷ RemovePaper ∷ []) s t → IsBehind cs start t
-        last_stops s t p h (inl left) = inl (sync_keeps_noted cs start s t p left)
-        last_stops s t p h (inr (m, (papers, same), rest)) =
-            paper_stops m t (noted_same cs start s m p papers.0 same) (placed_same s m h same) rest
+      at : Before cs apart start e.kept → OnBefore cs apart start e
+      at (inl old) = inl (rests (λ s p. inl p) d e cut old)
+      at (inr planned) = inr (rests (λ s p. inr p) d e cut planned)
 
-    pub place_whole : (s t : FolderStands) → IsNoted cs start s → DidAll cs (place_steps (length cs)) s t
-        → IsAllNew cs start t
-    place_whole s t p h = ended (did_cut cs (places (length cs)) (Sync ∷ RemovePaper ∷ []) s t h)
-      where
-        ended : (m : FolderStands) × DidAll cs (places (length cs)) s m × DidAll cs (Sync ∷ RemovePaper ∷ []) m t
-            → IsAllNew cs start t
-        ended (m, did, (w, (papers, same), (v, (paper, draft, alike), e))) =
-            let noted = noted_same cs start m w (places_keep cs start apart (length cs) s m p did) papers.0 same in
-            let placed = placed_same m w (all_placed cs start apart (length cs) s m p did) same in
-            subst (IsAllNew cs start) (sym e) (done_new w v noted placed paper alike)
+  cut_behind : (d e : Disk) → OnBehind cs apart start d → IsPowerCut d e → OnBehind cs apart start e
+  cut_behind d e (inl h) cut = inl (rests (λ s p. p) d e cut (h.left e.kept cut.kept))
+  cut_behind d e (inr h) cut = at (h.left e.kept cut.kept)
+    where
+      at : Behind cs apart start e.kept → OnBehind cs apart start e
+      at (inl noted) = inl (rests (λ s p. p) d e cut noted)
+      at (inr new) = inr (rests (λ s p. inr p) d e cut new)
 
-    on_stops : (s t : FolderStands) → IsNoted cs start s → StopsAt cs (on_steps (length cs)) s t → IsBehind cs start t
-    on_stops s t p (inl left) = inl (draft_keeps_noted cs start s t p left)
-    on_stops s t p (inr (m, did, rest)) = place_stops m t (draft_keeps_noted cs start s m p (inr did)) rest
+  pub ends_old : (d : Disk) → OnBefore cs apart start d → NextCompletes sum cs d (EndsWith (Old cs apart start))
+  ends_old d h n e again =
+      let c = completes cut_before knows_before d h n e again in
+      (c.0, c.1, c.2, λ u all. (c.3 u all).0)
 
-    on_whole : (s t : FolderStands) → IsNoted cs start s → DidAll cs (on_steps (length cs)) s t → IsAllNew cs start t
-    on_whole s t p (m, did, rest) = place_whole m t (draft_keeps_noted cs start s m p (inr did)) rest
+  pub ends_new : (d : Disk) → OnBehind cs apart start d → NextCompletes sum cs d (EndsWith (New cs apart start))
+  ends_new d h n e again =
+      let c = completes cut_behind knows_behind d h n e again in
+      (c.0, c.1, c.2, λ u all. (c.3 u all).0)
 
-    -- ---- commands that are stopped in turn
+  -- ---- where the note may be on the device or not
 
-    -- the steps are the known ones
-    step_before : (s t : FolderStands) (steps : List Step) → IsBefore cs start s → next_steps sum cs s ≡ Some steps
-        → StopsAt cs steps s t → IsBefore cs start t
-    step_before s t steps (inl old) e h =
-        let is : steps ≡ without_steps = same_Some steps without_steps (sym e ∙ known_absent s old.paper) in
-        inl (stops_keeps cs (IsAllOld cs start) without_steps s t (draft_keeps_old cs start, tt) old
-        (subst (λ (steps : List Step). StopsAt cs steps s t) is h))
-    step_before s t steps (inr planned) e h =
-        let is : steps ≡ back_steps (length cs) =
-        same_Some steps (back_steps (length cs)) (sym e ∙ known_planned s planned) in
-        back_stops s t planned (subst (λ (steps : List Step). StopsAt cs steps s t) is h)
+  abbrev ForGood : Disk → Type 0
+  ForGood u = EndsForGood sum cs (Old cs apart start) u ⊎ EndsForGood sum cs (New cs apart start) u
 
-    step_behind : (s t : FolderStands) (steps : List Step) → IsBehind cs start s → next_steps sum cs s ≡ Some steps
-        → StopsAt cs steps s t → IsBehind cs start t
-    step_behind s t steps (inr new) e h =
-        let is : steps ≡ without_steps = same_Some steps without_steps (sym e ∙ known_absent s new.paper) in
-        inr (stops_keeps cs (IsAllNew cs start) without_steps s t (draft_keeps_new cs start, tt) new
-        (subst (λ (steps : List Step). StopsAt cs steps s t) is h))
-    step_behind s t steps (inl noted) e h =
-        let is : steps ≡ on_steps (length cs) = same_Some steps (on_steps (length cs)) (sym e ∙ known_noted s noted) in
-        on_stops s t noted (subst (λ (steps : List Step). StopsAt cs steps s t) is h)
+  knows_unsure : (e : Disk) → OnUnsure cs apart start e → Knows (OnUnsure cs apart start) ForGood e
+  knows_unsure e (inl (inl before)) =
+      let k = knows_before e before in (
+        k.0,
+        k.1,
+        leads_within (λ d h. inl (inl h)) (leads_to (λ u h. inl (h.0, ends_old u h.1)) k.2),
+        k.3,
+      )
+  knows_unsure e (inl (inr behind)) =
+      let k = knows_behind e behind in (
+        k.0,
+        k.1,
+        leads_within (λ d h. inl (inr h)) (leads_to (λ u h. inr (h.0, ends_new u h.1)) k.2),
+        k.3,
+      )
+  knows_unsure e (inr unsure) = (
+    on_steps (length cs),
+    known_noted e.seen unsure.seen,
+    leads_to (λ u h. inr (h.0, ends_new u h.1)) (ending (new_fixed cs start apart) new_stays (Sync ∷ [])
+        (place_steps (length cs)) (on_leads cs apart start (Unsure cs apart start) (λ s p. inr p)
+        (OnUnsure cs apart start) (λ d h. inr h) (λ d h. inl (inr h))) e unsure),
+    on_within (length cs),
+  )
 
-    again_before : (n : ℕ) (s t : FolderStands) → IsBefore cs start s → StopsAgain sum cs n s t → IsBefore cs start t
-    again_before zero s t p e = subst (IsBefore cs start) (sym e) p
-    again_before (suc n) s t p (m, steps, e, h, rest) = again_before n m t (step_before s m steps p e h) rest
+  cut_unsure : (d e : Disk) → OnUnsure cs apart start d → IsPowerCut d e → OnUnsure cs apart start e
+  cut_unsure d e (inl (inl before)) cut = inl (inl (cut_before d e before cut))
+  cut_unsure d e (inl (inr behind)) cut = inl (inr (cut_behind d e behind cut))
+  cut_unsure d e (inr h) cut = at (h.left e.kept cut.kept)
+    where
+      at : Unsure cs apart start e.kept → OnUnsure cs apart start e
+      at (inl planned) = inl (inl (inr (rests (λ s p. inr p) d e cut planned)))
+      at (inr noted) = inl (inr (inl (rests (λ s p. p) d e cut noted)))
 
-    again_behind : (n : ℕ) (s t : FolderStands) → IsBehind cs start s → StopsAgain sum cs n s t → IsBehind cs start t
-    again_behind zero s t p e = subst (IsBehind cs start) (sym e) p
-    again_behind (suc n) s t p (m, steps, e, h, rest) = again_behind n m t (step_behind s m steps p e h) rest
-
-    -- ---- the end
-
-    -- the one that isn't stopped
-    abbrev Ended : (FolderStands → Type 0) → FolderStands → Type 0
-    Ended P s = (steps : List Step) × (next_steps sum cs s ≡ Some steps) × ((u : FolderStands) × DidAll cs steps s u)
-        × ((u : FolderStands) → DidAll cs steps s u → P u × (u.draft ≡ false))
-
-    ended_before : (s : FolderStands) → IsBefore cs start s → Ended (IsAllOld cs start) s
-    ended_before s (inl old) = (
-      without_steps,
-      known_absent s old.paper,
-      can_all cs apart without_steps (without_within (length cs)) s,
-      λ u h. (
-        did_keeps cs (IsAllOld cs start) without_steps s u
-            ((λ a b q did. draft_keeps_old cs start a b q (inr did)), tt) old h,
-        no_draft cs [] s u tt h,
-      ),
-    )
-    ended_before s (inr planned) = (
-      back_steps (length cs),
-      known_planned s planned,
-      can_all cs apart (back_steps (length cs)) (back_within (length cs)) s,
-      λ u h. (
-        back_whole s u planned h,
-        no_draft cs (unmakes (length cs) ++ Sync ∷ RemovePaper ∷ []) s u (back_draft cs (length cs)) h,
-      ),
-    )
-
-    ended_behind : (s : FolderStands) → IsBehind cs start s → Ended (IsAllNew cs start) s
-    ended_behind s (inr new) = (
-      without_steps,
-      known_absent s new.paper,
-      can_all cs apart without_steps (without_within (length cs)) s,
-      λ u h. (
-        did_keeps cs (IsAllNew cs start) without_steps s u
-            ((λ a b q did. draft_keeps_new cs start a b q (inr did)), tt) new h,
-        no_draft cs [] s u tt h,
-      ),
-    )
-    ended_behind s (inl noted) = (
-      on_steps (length cs),
-      known_noted s noted,
-      can_all cs apart (on_steps (length cs)) (on_within (length cs)) s,
-      λ u h. (
-        on_whole s u noted h,
-        no_draft cs (place_steps (length cs)) s u (on_draft cs (length cs)) h,
-      ),
-    )
-
-    pub ends_old : (s : FolderStands) → IsBefore cs start s → NextEnds sum cs s (IsAllOld cs start)
-    ends_old s p n t again = ended_before t (again_before n s t p again)
-
-    pub ends_new : (s : FolderStands) → IsBehind cs start s → NextEnds sum cs s (IsAllNew cs start)
-    ends_new s p n t again = ended_behind t (again_behind n s t p again)
-
-    -- ---- the save itself
-
-    module _ (ready : IsReady cs start) where
-      begins : IsAllOld cs start start
+module _ (sum : List ℕ → List ℕ) (cs : List Renewal) (apart : NamesAreApart cs) (d : Disk) (ready : IsReady cs d.seen)
+    (rest : IsAtRest d) where
+  all_old : IsHeld (Old cs apart d.seen) (Old cs apart d.seen) d
+  all_old = record {
+    seen = begins;
+    next = left (synced d) (all_some d.pending d.kept);
+    left = left;
+  }
+    where
+      begins : Old cs apart d.seen d.seen
       begins = record { paper = ready.paper; free = ready.free; others = λ n free. refl }
 
-      planned_now : (t : FolderStands) → t.paper ≡ Plan → Same start.file t.file → IsPlanned cs start t
-      planned_now t e same = record { paper = e; others = λ n free. same n }
+      left : (t : FolderStands) → WithSome d.pending d.kept t → Old cs apart d.seen t
+      left t some = let r = rest t some in old_same cs d.seen d.seen t begins r.0 r.1
 
-      plan_stops : (t : FolderStands) → StopsAt cs (plan_steps (length cs)) start t → IsBefore cs start t
-      plan_stops t (inl (inl (paper, same))) = inl (old_same cs start start t begins paper same)
-      plan_stops t (inl (inr (paper, draft, same))) = inr (planned_now t paper same)
-      plan_stops t (inr (m, (paper, draft, same), rest)) =
-          inr (stops_keeps cs (IsPlanned cs start) (make_steps (length cs) ++ Sync ∷ []) m t
-          (all_and (Keeps cs (IsPlanned cs start)) (make_steps (length cs)) (Sync ∷ [])
-          (all_each (Keeps cs (IsPlanned cs start)) Make (length cs) (make_keeps cs start)) (sync_keeps cs start, tt))
-          (planned_now m paper same) rest)
+  planned : (m : Disk) → DidAllOn cs (plan_steps (length cs)) d m
+      → IsHeld (AllMade cs apart d.seen) (AllMade cs apart d.seen) m
+  planned m all = (plan_leads cs apart d.seen).whole d m all_old all
 
-      plan_whole : (t : FolderStands) → DidAll cs (plan_steps (length cs)) start t
-          → IsPlanned cs start t × HoldBeside cs (λ c. Some c.new) (length cs) t
-      plan_whole t (m, (paper, draft, same), rest) =
-          made (did_cut cs (make_steps (length cs)) (Sync ∷ []) m t rest)
-        where
-          made : (w : FolderStands) × DidAll cs (make_steps (length cs)) m w × DidAll cs (Sync ∷ []) w t
-              → IsPlanned cs start t × HoldBeside cs (λ c. Some c.new) (length cs) t
-          made (w, all, (v, (papers, alike), e)) =
-              let planned : IsPlanned cs start w = did_keeps cs (IsPlanned cs start) (make_steps (length cs)) m w
-              (all_each (KeepsWhole cs (IsPlanned cs start)) Make (length cs)
-              (λ k a b q did. make_keeps cs start k a b q (inr did)))
-              (planned_now m paper same) all in
-              let held : HoldBeside cs (λ c. Some c.new) (length cs) w = all_made cs start apart (length cs) m w all in
-              subst (λ (x : FolderStands). IsPlanned cs start x × HoldBeside cs (λ c. Some c.new) (length cs) x) (sym e)
-              (planned_same cs start w v planned papers.0 alike, λ k c below at. alike c.beside ∙ held k c below at)
+  noted : (m : Disk) → DidAllOn cs (plan_steps (length cs) ++ WriteNote ∷ []) d m
+      → IsHeld (Noted cs apart d.seen) (Noted cs apart d.seen) m
+  noted m all =
+      let cut = did_cut (DidOn cs) (MayLeaveOn cs) (plan_steps (length cs)) (WriteNote ∷ []) d m all in
+      (note_leads cs apart d.seen ready).whole cut.0 m (planned cut.0 cut.1) cut.2
 
-      -- the note takes the plan's place
-      noted : (s t : FolderStands) → IsPlanned cs start s → HoldBeside cs (λ c. Some c.new) (length cs) s
-          → Did cs WriteNote s t → IsNoted cs start t
-      noted s t p held (paper, draft, same) = record {
-        paper = paper;
-        each = λ k c at. inl (
-          same c.name ∙ p.others c.name (λ j b there. apart.crossed k j c b at there) ∙ ready.old k c at,
-          same c.beside ∙ held k c (slice_get_within cs k c at) at,
-        );
-        others = λ n free. same n ∙ p.others n (λ k c at. (free k c at).1);
-      }
+  all_new : (m e : Disk) → InPlace cs apart d.seen (length cs) m → DidAllOn cs (Sync ∷ RemovePaper ∷ []) m e
+      → New cs apart d.seen e.seen
+  all_new m e h (w, sync, (v, removed, is)) =
+      let placed = noted_with_same cs d.seen (length cs) m.seen w.seen h.seen sync.is.seen.0.0 sync.is.seen.1 in
+      subst (λ (x : Disk). New cs apart d.seen x.seen) (sym is)
+      (done_new cs d.seen w.seen v.seen placed removed.is.seen.0 removed.is.seen.2)
 
-      between : (m s : FolderStands) → IsPlanned cs start m → HoldBeside cs (λ c. Some c.new) (length cs) m
-          → MayLeave cs WriteNote m s → NextEnds sum cs s (IsAllOld cs start) ⊎ NextEnds sum cs s (IsAllNew cs start)
-      between m s p held (inl (paper, same)) = inl (ends_old s (inr (planned_same cs start m s p paper same)))
-      between m s p held (inr did) = inr (ends_new s (inl (noted m s p held did)))
+  -- the note is being written: its draft isn't renamed, or all is done
+  pub stopped_before : (m e : Disk) → DidAllOn cs (plan_steps (length cs)) d m → (made : List NameChange)
+      → MakesInPart cs WriteNote made → DidInPart cs WriteNote m.seen e.seen → IsPending m made e
+      → NextCompletes sum cs e (EndsWith (Old cs apart d.seen))
+  stopped_before m e all made part seen pending = ends_old sum cs apart d.seen e (inr (held_weaker (λ s p. p.0)
+      (λ s p. inr p.0) e
+      (part_held apart (note_moves cs apart d.seen ready) m made e (planned m all) part seen pending)))
 
-      noted_whole : (m : FolderStands) → DidAll cs (plan_steps (length cs) ++ WriteNote ∷ []) start m
-          → IsNoted cs start m
-      noted_whole m h = at_note (did_cut cs (plan_steps (length cs)) (WriteNote ∷ []) start m h)
-        where
-          at_note : (w : FolderStands) × DidAll cs (plan_steps (length cs)) start w × DidAll cs (WriteNote ∷ []) w m
-              → IsNoted cs start m
-          at_note (w, all, (v, did, e)) =
-              let here = plan_whole w all in subst (IsNoted cs start) (sym e) (noted w v here.0 here.1 did)
+  pub stopped_after : (m e : Disk) → DidAllOn cs (plan_steps (length cs)) d m → DidOn cs WriteNote m e
+      → NextCompletes sum cs e (EndsWith (New cs apart d.seen))
+  stopped_after m e all did = ends_new sum cs apart d.seen e
+      (inl ((note_leads cs apart d.seen ready).whole m e (planned m all) (e, did, refl)))
 
-      whole : (t : FolderStands) → DidAll cs (save_steps (length cs)) start t → IsAllNew cs start t
-      whole t h = ended (did_cut cs (plan_steps (length cs)) (WriteNote ∷ place_steps (length cs)) start t h)
-        where
-          ended : (w : FolderStands) × DidAll cs (plan_steps (length cs)) start w
-              × DidAll cs (WriteNote ∷ place_steps (length cs)) w t
-              → IsAllNew cs start t
-          ended (w, all, (v, did, rest)) =
-              let here = plan_whole w all in place_whole v t (noted w v here.0 here.1 did) rest
-
-      pub all_or_nothing : IsAllOrNothing sum cs start
-      all_or_nothing = record {
-        before = λ s stops. ends_old s (plan_stops s stops);
-        between = λ m s all left. let here = plan_whole m all in between m s here.0 here.1 left;
-        behind = λ m s all stops. ends_new s (place_stops m s (noted_whole m all) stops);
-        can = can_all cs apart (save_steps (length cs)) (save_within (length cs)) start;
-        whole = whole;
-      }
+  pub survives : SurvivesPowerCuts sum cs d
+  survives = record {
+    ever = λ e off.
+        completes sum cs apart d.seen (cut_unsure sum cs apart d.seen) (knows_unsure sum cs apart d.seen) e
+        (broke sum cs apart d.seen (cut_unsure sum cs apart d.seen) (save_steps (length cs))
+        (save_leads cs apart d.seen ready) d e all_old off);
+    before = λ e off. ends_old sum cs apart d.seen e
+        (broke sum cs apart d.seen (cut_before sum cs apart d.seen) (plan_steps (length cs))
+        (plan_leads cs apart d.seen) d e all_old off);
+    after = λ m e all off. ends_new sum cs apart d.seen e
+        (broke sum cs apart d.seen (cut_behind sum cs apart d.seen) (place_steps (length cs))
+        (place_leads cs apart d.seen) m e (noted m all) off);
+    can = can_all cs apart (save_steps (length cs)) (save_within (length cs)) d;
+    whole = λ e all.
+        let held = (save_leads cs apart d.seen ready).whole d e all_old all in
+        record {
+          now = held.seen;
+          draft = drafts_kept cs (make_steps (length cs) ++ Sync ∷ [] ++ WriteNote ∷ place_steps (length cs))
+              all.0 e all.2 all.1.is.seen.1;
+          rest = λ t some. new_fixed cs d.seen apart e.seen t held.seen (held.left t some);
+        };
+    counts = λ m e all last.
+        let cut = did_cut (DidOn cs) (MayLeaveOn cs) (places (length cs)) (Sync ∷ RemovePaper ∷ []) m e last in
+        all_new cut.0 e ((places_lead cs apart d.seen).whole m cut.0 (noted m all) cut.1) cut.2;
+  }

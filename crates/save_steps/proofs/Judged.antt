@@ -1,6 +1,6 @@
 -- How what stands is judged.
-use Rattle.std.proofs.Common.{◌≡◌, ℕ, zero, suc, true, false, List, [], ◌∷◌, Option, Some, None, map, slice_get, refl}
-use Rattle.std.proofs.Common.{rules}
+use Rattle.std.proofs.Common.{◌≡◌, ◌≢◌, ◌⊎◌, inl, inr, ℕ, zero, suc, Bool, true, false, List, [], ◌∷◌, Option, Some}
+use Rattle.std.proofs.Common.{None, map, slice_get, refl, rules}
 use Rattle.std.proofs.lemmas.Slice.Eq.{bytes_eq-Decides}
 use Rattle.std.specs.Str.{bytes_eq}
 use Rattle.std.specs.List.{list_any}
@@ -11,6 +11,16 @@ use Rattle.save_steps.specs.Folders.{Renewal}
 
 pub same_bytes : (s : List ℕ) → bytes_eq s s ≡ true
 same_bytes s = search (rules, bytes_eq-Decides)
+
+pub other_bytes : (a b : List ℕ) → a ≢ b → bytes_eq a b ≡ false
+other_bytes a b ne = search (rules, bytes_eq-Decides)
+
+pub same_or_not : (a b : List ℕ) → (a ≡ b) ⊎ (a ≢ b)
+same_or_not a b = by_test (bytes_eq a b) refl
+  where
+    by_test : (r : Bool) → bytes_eq a b ≡ r → (a ≡ b) ⊎ (a ≢ b)
+    by_test true e = inl ((bytes_eq-Decides a b).0 e)
+    by_test false e = inr (λ h. let e' : bytes_eq a b ≡ true = (bytes_eq-Decides a b).1 h in absurd cc)
 
 same_as_itself : (a : Option (List ℕ)) → same_sum a a ≡ true
 same_as_itself None = refl

@@ -88,13 +88,21 @@ MayLeave changes step s t = DidInPart changes step s t ⊎ Did changes step s t
 
 -- ---- what steps in a row do
 
--- all of them
-abbrev pub DidAll : List Renewal → List Step → FolderStands → FolderStands → Type 0
-DidAll changes [] s t = t ≡ s
-DidAll changes (step ∷ steps) s t = (m : FolderStands) × Did changes step s m × DidAll changes steps m t
+-- all of them, where one step leads so from one state to another
+abbrev pub InTurn : {A : Type 0} → (Step → A → A → Type 0) → List Step → A → A → Type 0
+InTurn does [] s t = t ≡ s
+InTurn {A} does (step ∷ steps) s t = (m : A) × does step s m × InTurn does steps m t
 
--- a stop at any moment leaves this: before the first, within one, or behind the last
+-- A stop at any moment leaves this: before the first, within one, or after the last. `leaves` says it of one step.
+abbrev pub CutShort : {A : Type 0} → (does leaves : Step → A → A → Type 0) → List Step → A → A → Type 0
+CutShort does leaves [] s t = t ≡ s
+CutShort {A} does leaves (step ∷ steps) s t =
+    leaves step s t ⊎ ((m : A) × does step s m × CutShort does leaves steps m t)
+
+-- all of them, in a folder
+abbrev pub DidAll : List Renewal → List Step → FolderStands → FolderStands → Type 0
+DidAll changes = InTurn (Did changes)
+
+-- a stop at any moment, in a folder
 abbrev pub StopsAt : List Renewal → List Step → FolderStands → FolderStands → Type 0
-StopsAt changes [] s t = t ≡ s
-StopsAt changes (step ∷ steps) s t =
-    MayLeave changes step s t ⊎ ((m : FolderStands) × Did changes step s m × StopsAt changes steps m t)
+StopsAt changes = CutShort (Did changes) (MayLeave changes)

@@ -22,9 +22,13 @@ unmakes n = for_each Unmake n
 abbrev pub plan_steps : ℕ → List Step
 plan_steps n = WritePlan ∷ make_steps n ++ Sync ∷ []
 
--- behind the note: each new file in its file's place, and the note removed
+-- the plan or the note removed once all before it is on the device, and its removal brought there too
+abbrev pub end_steps : List Step
+end_steps = Sync ∷ RemovePaper ∷ Sync ∷ []
+
+-- after the note: each new file in its file's place, and the note removed
 abbrev pub place_steps : ℕ → List Step
-place_steps n = places n ++ Sync ∷ RemovePaper ∷ []
+place_steps n = places n ++ end_steps
 
 -- a whole save of n files
 abbrev pub save_steps : ℕ → List Step
@@ -32,12 +36,12 @@ save_steps n = plan_steps n ++ WriteNote ∷ place_steps n
 
 -- a planned save taken away
 abbrev pub back_steps : ℕ → List Step
-back_steps n = RemoveDraft ∷ unmakes n ++ Sync ∷ RemovePaper ∷ []
+back_steps n = RemoveDraft ∷ unmakes n ++ end_steps
 
--- a noted save carried to its end
+-- a noted save carried to its end, once the note that was found is on the device for certain
 abbrev pub on_steps : ℕ → List Step
-on_steps n = RemoveDraft ∷ place_steps n
+on_steps n = Sync ∷ RemoveDraft ∷ place_steps n
 
--- where no paper tells of a save
+-- where no paper is found: the removal of one brought to the device
 abbrev pub without_steps : List Step
-without_steps = RemoveDraft ∷ []
+without_steps = RemoveDraft ∷ Sync ∷ []

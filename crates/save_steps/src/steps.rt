@@ -14,13 +14,15 @@ pub enum Paper {
 /// A step of a save, or of finishing one. Files go by their number, in the order in which they are declared.
 #[derive(Clone, Copy, PartialEq, Eq, Debug)]
 pub enum Step {
-    /// The plan is written as a draft, brought to the device, and takes its place.
+    /// The plan is written as a draft and brought to the device, takes its place, and the folder is brought to the
+    /// device.
     WritePlan,
     /// The new file beside a file is made, and brought to the device.
     Make(usize),
     /// The folder is brought to the device.
     Sync,
-    /// The note is written as a draft, brought to the device, and takes the plan's place. From then on the save counts.
+    /// The note is written as a draft and brought to the device, takes the plan's place, and the folder is brought to
+    /// the device. From then on the save counts.
     WriteNote,
     /// The new file beside a file takes its place, if it still stands beside it.
     Place(usize),

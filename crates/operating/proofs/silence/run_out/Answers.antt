@@ -21,6 +21,7 @@ loop-turn-init g c = record {
       t);
   within = within_is _ _ _ c.take_step-turn.ensures.further;
   untold = refl;
+  cause = refl;
 }
 
 pub returns-in-Over-clause-comes_to : goal.returns-in-Over-clause-comes_to
@@ -39,4 +40,5 @@ loop-turn-preserved g c = record {
       (on_is _ store today bytes _ _ _ _ c.in-On.is (c.loop-turn.invariant.turned store today bytes t));
   within = within_is _ _ _ c.in_ok-turn-in-On.ensures.further;
   untold = c.in_ok-turn-in-On.ensures.untold ∙ c.loop-turn.invariant.untold;
+  cause = c.in_ok-turn-in-On.ensures.cause ∙ c.loop-turn.invariant.cause;
 }

@@ -13,6 +13,7 @@ invariant-loop-turn g l = record {
       → QuietTurned l.fn.verified store today bytes l.fn.budget l.turn l.banks;
   within : steps_of l.turn ≤ l.fn.budget;
   untold : g.O.Operator.answered l.operator ≡ g.O.Operator.answered l.fn.operator;
+  cause : g.O.Operator.failure l.operator ≡ g.O.Operator.failure l.fn.operator;
 }
 
 abbrev pub decreases-loop-turn : goal.decreases-loop-turn

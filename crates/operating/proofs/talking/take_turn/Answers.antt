@@ -45,4 +45,4 @@ show-requires g c =
 
 pub returns-in_err-show-in-Marked-clause-unkept : goal.returns-in_err-show-in-Marked-clause-unkept
 returns-in_err-show-in-Marked-clause-unkept g c =
-    on_err c.from_residual.result _ (unkept_none _ _ _ _ (c.show.ensures.untold ∙ c.hear-part.ensures) refl)
+    on_err c.from_residual.result _ (unkept_none _ _ _ _ (c.show.ensures.untold ∙ c.hear-part.ensures.untold) refl)

@@ -17,6 +17,7 @@ invariant-loop-turned g l = record {
   kept : AnswersKept (g.O.Operator.answered l.fn.operator) (g.O.Operator.answered l.operator)
       (g.J.Journal.holds l.fn.journal) (g.J.Journal.holds l.journal);
   unfailed : g.J.Journal.failed l.journal ≡ g.J.Journal.failed l.fn.journal;
+  cause : g.O.Operator.failure l.operator ≡ g.O.Operator.failure l.fn.operator;
 }
 
 abbrev pub decreases-loop-turned : goal.decreases-loop-turned

@@ -1,4 +1,4 @@
-use Rattle.save_steps.proofs.Ending.{all_or_nothing}
+use Rattle.save_steps.proofs.Stops.{all_or_nothing}
 use Rattle.save_steps.proofs.laws.a_save_is_all_or_nothing.Goals as goal
 
 pub returns : goal.returns

@@ -1,7 +1,7 @@
 use Rattle.std.proofs.Common.{◌≡◌, ◌↔◌, ◌∙◌, ap, IsTrue, refl, Bool, true, false}
 use Rattle.fixed_num.specs.Number.{Number, asterisk, finite}
 use Rattle.operator_desk.specs.Asked.{is_no_number}
-use Rattle.operator_desk.proofs.gets.is_no_number.Goals as goal
+use Rattle.operator_desk.proofs.judging.is_no_number.Goals as goal
 
 told : (truth : Bool) (number : Number) → (IsTrue truth ↔ (number ≡ asterisk)) → truth ≡ is_no_number number
 told true asterisk h = refl
