@@ -1,5 +1,6 @@
 /* Swaps a name inside the program's own calls, as another program might: gcc -shared -fPIC -o swap.so swap.c -ldl
-   SWAP_CALL   the call at which it swaps: before fchown, fchmod, fstat, open or rename, or after stat or lstat
+   SWAP_CALL   the call at which it swaps: before fchown, fchmod, fstat, open, create (an open that may make a file)
+               or rename, or after stat or lstat
    SWAP_WHEN   at which of these calls that concern the name, counted from 1
    SWAP_NAME   the name that another file takes; it is kept as SWAP_NAME.mine
    SWAP_TO     what takes it: "link PATH", "fifo", "file", or "hard PATH" (a further name of that file); with "touched"
@@ -81,7 +82,7 @@ int open(const char *path, int flags, ...)
     va_start(more, flags);
     mode_t mode = va_arg(more, mode_t);
     va_end(more);
-    swap("open", !strcmp(path, getenv("SWAP_NAME")) && !(flags & O_CREAT));
+    swap(flags & O_CREAT ? "create" : "open", !strcmp(path, getenv("SWAP_NAME")));
     return ((int (*)(const char *, int, ...)) dlsym(RTLD_NEXT, "open"))(path, flags, mode);
 }
 
