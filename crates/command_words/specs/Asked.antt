@@ -1,5 +1,6 @@
 -- What the words of a command line ask for: the command's name, and the words behind it by their ids.
-use Rattle.std.specs.Prelude.{◌≡◌, ◌⊎◌, ◌↔◌, ℕ, Bool, true, false, List, [], Option, Some, None, codes, unwrap_or}
+use Rattle.std.specs.Prelude.{◌≡◌, ◌≢◌, ◌⊎◌, ◌↔◌, ℕ, Bool, true, false, List, [], Option, Some, None, codes, unwrap_or}
+use Rattle.std.specs.Prelude.{is_none}
 use Rattle.std.specs.Option.{option_map}
 use Rattle.std.specs.Borrow.{Bor}
 use Rattle.clap.specs.Walk.{Row}
@@ -8,6 +9,9 @@ use Rattle.code_pages.specs.declared.pages.CodePage.TheVariants.{Cp437, Cp850}
 use Rattle.run_commands.specs.Days.{IsDayNamed}
 use Rattle.run_commands.specs.declared.job.Job.{Job}
 use Rattle.command_words.specs.declared.operate_words.OperateWords.{OperateWords}
+use Rattle.command_words.specs.declared.operate_words.RepeatedWords.{RepeatedWords}
+use Rattle.command_words.specs.declared.operate_words.TalkAsked.{TalkAsked}
+use Rattle.command_words.specs.declared.operate_words.TalkAsked.TheVariants.{Begins, GoesOn}
 use Rattle.command_words.specs.declared.operate_words.ShownWords.{ShownWords}
 use Rattle.command_words.specs.declared.operate_words.TalkWords.{TalkWords}
 use Rattle.command_words.specs.declared.words.Listing.{Listing}
@@ -18,7 +22,7 @@ use Rattle.command_words.specs.declared.words.SaveWords.{SaveWords}
 use Rattle.command_words.specs.declared.words.Words.{Words}
 use Rattle.command_words.specs.declared.words.Words.TheVariants.{Compile, Faults, Run, Operate, Verify, Code}
 use Rattle.command_words.specs.declared.words.Words.TheVariants.{List as OfTable, Index, Declare, Forget}
-use Rattle.command_words.specs.Refused.{says_how, asks_anew}
+use Rattle.command_words.specs.Refused.{says_how}
 use Rattle.command_words.specs.Said.{word_given, has_flag}
 use Rattle.command_words.specs.Windows.{IsNumber, IsSize}
 
@@ -38,6 +42,12 @@ pub record IsNumberOr (else : ℕ) (word : Option (List ℕ)) (n : ℕ) : Type 0
   pub said : Option ℕ
   pub number : IsNumberIf word said
   pub told : n ≡ unwrap_or said else
+
+-- the code page of a name, none if no page has it
+abbrev pub IsPageIfKnown : List ℕ → Option CodePage → Type 0
+IsPageIfKnown name None = (name ≢ codes "cp437") × (name ≢ codes "cp850")
+IsPageIfKnown name (Some Cp437) = name ≡ codes "cp437"
+IsPageIfKnown name (Some Cp850) = name ≡ codes "cp850"
 
 -- the code page that the words name
 abbrev pub IsPageNamed : List Row → Option CodePage → Type 0
@@ -83,11 +93,13 @@ AreTested rows (Saved save) = ⊥
 
 pub record IsRunAsked (rows : List Row) (run : RunWords) : Type 0 where
   pub job : IsJob rows false run.job
+  pub day : run.day_left_out ≡ is_none (word_given (codes "today") rows)
   pub tables : AreOutcomes rows run.tables
   pub screens : lent run.screens ≡ word_given (codes "screens") rows
 
 pub record IsTestedRun (rows : List Row) (run : RunWords) : Type 0 where
   pub job : IsJob rows true run.job
+  pub day : run.day_left_out ≡ is_none (word_given (codes "today") rows)
   pub tables : AreTested rows run.tables
   pub screens : run.screens ≡ None
 
@@ -100,10 +112,19 @@ pub record IsTalk (rows : List Row) (talk : TalkWords) : Type 0 where
   pub tables : AreOutcomes rows talk.tables
   pub page : IsPageNamed rows talk.page
 
--- what a conversation is asked for; none where it goes on
-abbrev pub IsTalkIf : List Row → Option TalkWords → Type 0
-IsTalkIf rows None = (has_flag (codes "continue") rows ≡ true) × (asks_anew rows ≡ false)
-IsTalkIf rows (Some talk) = (has_flag (codes "continue") rows ≡ false) × IsTalk rows talk
+-- the options that are given again when a conversation goes on; one that isn't given says nothing
+pub record IsRepeated (rows : List Row) (repeated : RepeatedWords) : Type 0 where
+  pub budget : IsNumberIf (word_given (codes "budget") rows) repeated.budget
+  pub limit : IsNumberIf (word_given (codes "limit") rows) repeated.limit
+  pub day : IsNamedIf IsDayNamed (word_given (codes "today") rows) repeated.day
+  pub page : IsPageNamed rows repeated.page
+  pub rehearse : repeated.rehearse ≡ has_flag (codes "rehearse") rows
+  pub save : IsSave rows repeated.save
+
+-- a conversation goes on just if the words say so
+abbrev pub IsTalkAsked : List Row → TalkAsked → Type 0
+IsTalkAsked rows (Begins talk) = (has_flag (codes "continue") rows ≡ false) × IsTalk rows talk
+IsTalkAsked rows (GoesOn repeated) = (has_flag (codes "continue") rows ≡ true) × IsRepeated rows repeated
 
 pub record IsShown (rows : List Row) (shown : ShownWords) : Type 0 where
   pub window : IsNamedIf IsSize (word_given (codes "window") rows) shown.window
@@ -113,7 +134,7 @@ pub record IsShown (rows : List Row) (shown : ShownWords) : Type 0 where
 pub record IsOperate (rows : List Row) (words : OperateWords) : Type 0 where
   pub code : word_given (codes "FILE") rows ≡ Some words.code.now
   pub journal : word_given (codes "journal") rows ≡ Some words.journal.now
-  pub talk : IsTalkIf rows words.talk
+  pub talk : IsTalkAsked rows words.talk
   pub shown : IsShown rows words.shown
 
 -- ---- all commands

@@ -8,7 +8,7 @@ use Rattle.run_commands.specs.Days.{NamesNoDay}
 use Rattle.command_words.specs.declared.operate_words.WindowWords.{WindowWords}
 use Rattle.command_words.specs.declared.words.WordsFault.{WordsFault}
 use Rattle.command_words.specs.declared.words.WordsFault.TheVariants.{Today, Limit, Page, Missing, Window}
-use Rattle.command_words.specs.declared.words.WordsFault.TheVariants.{Continued, Rehearsed}
+use Rattle.command_words.specs.declared.words.WordsFault.TheVariants.{Rehearsed}
 use Rattle.command_words.specs.CommandLine.{commands}
 use Rattle.command_words.specs.Said.{word_given, has_flag}
 use Rattle.command_words.specs.Windows.{IsNumber, IsSize}
@@ -49,19 +49,6 @@ says_how rows =
 abbrev pub SavesToo : List Row → WordsFault → Type 0
 SavesToo rows told = (told ≡ Rehearsed) × (has_flag (codes "rehearse") rows ≡ true) × (says_how rows ≡ true)
 
--- the words name what a conversation is asked for when it begins
-abbrev pub names_terms : List Row → Bool
-names_terms rows = list_any (λ id. is_some (word_given id rows))
-    (codes "budget" ∷ codes "limit" ∷ codes "today" ∷ codes "from" ∷ codes "backup" ∷ [])
-
--- they say what becomes of its tables
-abbrev pub says_outcome : List Row → Bool
-says_outcome rows = list_any (λ id. has_flag id rows)
-    (codes "rehearse" ∷ codes "only-finished" ∷ codes "new-owner" ∷ codes "no-lock" ∷ codes "keep-unchanged" ∷ [])
-
-abbrev pub asks_anew : List Row → Bool
-asks_anew rows = names_terms rows || says_outcome rows
-
 -- ---- commands
 
 abbrev pub JobRefused : List Row → WordsFault → Type 0
@@ -77,9 +64,13 @@ NewTalkRefused rows told = NoLimit (word_given (codes "limit") rows) told
     ⊎ (NoDay (word_given (codes "today") rows) told
     ⊎ (SavesToo rows told ⊎ NoPage (word_given (codes "from") rows) told))
 
+-- of options that are given again
+abbrev pub RepeatedRefused : List Row → WordsFault → Type 0
+RepeatedRefused rows told = NoLimit (word_given (codes "limit") rows) told
+    ⊎ (NoDay (word_given (codes "today") rows) told ⊎ NoPage (word_given (codes "from") rows) told)
+
 abbrev pub TalkRefused : List Row → WordsFault → Type 0
-TalkRefused rows told =
-    ((told ≡ Continued) × (has_flag (codes "continue") rows ≡ true) × (asks_anew rows ≡ true))
+TalkRefused rows told = ((has_flag (codes "continue") rows ≡ true) × RepeatedRefused rows told)
     ⊎ ((has_flag (codes "continue") rows ≡ false) × NewTalkRefused rows told)
 
 abbrev pub OperateRefused : List Row → WordsFault → Type 0

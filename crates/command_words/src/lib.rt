@@ -4,8 +4,10 @@
 mod operate_words;
 mod words;
 
-pub use operate_words::{OperateWords, ShownWords, TalkWords, WindowWords, window_named};
+pub use operate_words::{
+    OperateWords, RepeatedWords, ShownWords, TalkAsked, TalkWords, WindowWords, window_named,
+};
 pub use words::{
-    DEFAULT_BUDGET, Listing, Outcomes, RunWords, SaveWords, Words, WordsFault, command, sources_of,
-    words_of,
+    DEFAULT_BUDGET, Listing, Outcomes, RunWords, SaveWords, Words, WordsFault, command, page_named,
+    sources_of, words_of,
 };

@@ -6,9 +6,9 @@ ghost use Rattle.clap.specs.Matches.{found_of};
 ghost use Rattle.clap.specs.Simple.{app_of};
 ghost use Rattle.clap.specs.Walk.{rows_of, rule_of};
 ghost use Rattle.run_commands.specs.Days.{IsDayNamed};
-ghost use Rattle.command_words.specs.Asked.{lent, IsNamedIf, IsTalk, IsTalkIf, IsShown, IsOperate};
-ghost use Rattle.command_words.specs.Refused.{NoDay, NoWindow, NewTalkRefused, TalkRefused, OperateRefused};
-ghost use Rattle.command_words.specs.Refused.{names_terms, says_outcome, asks_anew};
+ghost use Rattle.command_words.specs.Asked.{lent, IsNamedIf, IsTalk, IsRepeated, IsTalkAsked, IsShown, IsOperate};
+ghost use Rattle.command_words.specs.Refused.{NoDay, NoWindow, NewTalkRefused, RepeatedRefused, TalkRefused};
+ghost use Rattle.command_words.specs.Refused.{OperateRefused};
 ghost use Rattle.command_words.specs.CommandLine.{taking, alone, valued_word, journal_word};
 ghost use Rattle.command_words.specs.CommandLine.{run_words, save_words, talk_words};
 ghost use Rattle.command_words.specs.Said.{word_given};
@@ -16,9 +16,9 @@ ghost use Rattle.command_words.specs.declared.operate_words.WindowWords.{WindowW
 ghost use Rattle.command_words.specs.Windows.{IsNumber, IsSize};
 
 use crate::words::{
-    BACKUP, FILE, KEEP_UNCHANGED, NEW_OWNER, NO_LOCK, ONLY_FINISHED, Outcomes, REHEARSE, RunHelp,
-    WordsFault, flag, is_set, limit_of, number_if, page, page_of, run_outcomes, runner, saver,
-    valued, with_word, word_if, word_of,
+    FILE, Outcomes, REHEARSE, RunHelp, SaveWords, WordsFault, flag, is_set, limit_if_said,
+    limit_of, number_if, page, page_of, run_outcomes, runner, save_of, saver, valued, with_word,
+    word_if, word_of,
 };
 use clap::{Arg, ArgMatches, Command};
 use code_pages::CodePage;
@@ -56,7 +56,26 @@ pub struct TalkWords<'a> {
     pub page: Option<CodePage>,
 }
 
-/// How a conversation is shown. It may be said anew whenever a conversation goes on.
+/// The options that are given again when a conversation goes on. They must be those with which it was begun; an option
+/// that isn't given says nothing.
+#[derive(Clone, Copy)]
+pub struct RepeatedWords<'a> {
+    pub budget: Option<u64>,
+    pub limit: Option<RecordLimit>,
+    pub day: Option<RunDay>,
+    pub page: Option<CodePage>,
+    pub rehearse: bool,
+    pub save: SaveWords<'a>,
+}
+
+/// Whether a conversation begins or goes on.
+#[derive(Clone, Copy)]
+pub enum TalkAsked<'a> {
+    Begins(TalkWords<'a>),
+    GoesOn(RepeatedWords<'a>),
+}
+
+/// How a conversation is shown. Other options than before may be given whenever it goes on.
 #[derive(Clone, Copy)]
 pub struct ShownWords<'a> {
     /// The size of the window, where the words say it.
@@ -74,16 +93,22 @@ pub struct OperateWords<'a> {
     pub code: &'a str,
     /// The journal's file.
     pub journal: &'a str,
-    /// What the conversation is asked for; none where it goes on as it was begun.
-    pub talk: Option<TalkWords<'a>>,
+    pub talk: TalkAsked<'a>,
     pub shown: ShownWords<'a>,
 }
 
 /// What help says of the budget and the day of a conversation.
 const HELP: RunHelp<'static> = RunHelp {
-    budget: "The most that the run may cost, below 2^64 (left out: 1000000, and where a person types the greatest)",
-    today: "The day of the run, in the years 1900 to 2155 (left out: the computer's, in the zone of TZ)",
+    budget: "The most steps that the run may take, below 2^64 (default: 1000000; at a terminal, the greatest)",
+    today: "The date of the run, in the years 1900 to 2155 (default: the computer's, in the time zone of TZ)",
 };
+
+/// How a session ends, and an example.
+const OPERATE_FURTHER: &str = "\
+A session that ends early, because the budget is spent, a table is full or memory is short, saves what it did until
+then. --only-finished saves nothing in that case, --rehearse saves nothing at all, and --backup keeps the old files.
+
+Example (after compile): dbrun operate DAY.XBC --journal MONDAY.TXT";
 
 /// The word that names the journal.
 fn journal<'a>(alloc: Global) -> Arg<'a>
@@ -93,7 +118,7 @@ fn journal<'a>(alloc: Global) -> Arg<'a>
         alloc,
         JOURNAL,
         "FILE",
-        "The file that keeps each line before the program takes it",
+        "The file to which each line is written before the program reads it",
     )
     .required(true)
 }
@@ -103,7 +128,11 @@ fn talker<'a>(alloc: Global, command: Command<'a>) -> Result<Command<'a>, AllocE
     ensures { (name : List ℕ) → app_of command.entry ≡ alone (taking name (run_words ++ save_words))
         → IfOk result (λ c. app_of c ≡ alone (taking name (run_words ++ save_words ++ talk_words))) }
 {
-    let again = flag(alloc, CONTINUE, "Goes on behind the lines of the journal");
+    let again = flag(
+        alloc,
+        CONTINUE,
+        "Resumes the session after the last line of its journal; options may be repeated, not changed",
+    );
     let window = valued(
         alloc,
         WINDOW,
@@ -113,13 +142,16 @@ fn talker<'a>(alloc: Global, command: Command<'a>) -> Result<Command<'a>, AllocE
     let plain = flag(
         alloc,
         PLAIN,
-        "Lists the rows that changed, and draws nothing",
+        "Prints the rows that changed instead of drawing the screen",
     );
     let command = with_word(command, journal(alloc))?;
     let command = with_word(command, again)?;
     let command = with_word(
         command,
-        page(alloc, "The code page of the tables' texts, cp437 or cp850"),
+        page(
+            alloc,
+            "The code page of the tables' texts, cp437 or cp850 (left out: DBRUN_PAGE, if it is set)",
+        ),
     )?;
     let command = with_word(command, window)?;
     let command = with_word(command, plain)?;
@@ -134,8 +166,8 @@ pub(crate) fn operator<'a>(alloc: Global) -> Result<Command<'a>, AllocError>
     let run = runner(
         alloc,
         "operate",
-        "Runs a code file in conversation with an operator, whose lines a journal keeps",
-        "Example, behind that of compile: dbrun operate DAY.XBC --journal MONDAY.TXT",
+        "Runs a code file with an operator at a terminal, and writes each line that is typed to a journal",
+        OPERATE_FURTHER,
         &HELP,
     )?;
     talker(alloc, saver(alloc, run)?)
@@ -149,7 +181,7 @@ pub(crate) fn screens<'a>(alloc: Global) -> Arg<'a>
         alloc,
         SCREENS,
         "FILE",
-        "Writes the screen before each line, and the last one, to this file",
+        "Writes the screen before each input line, and the last screen, to this new file",
     )
 }
 
@@ -192,35 +224,6 @@ fn window_of(matches: &ArgMatches<'_>) -> Result<Option<WindowWords>, WordsFault
     }
 }
 
-/// Whether the words name what a conversation is asked for.
-fn names_terms(matches: &ArgMatches<'_>) -> bool
-    ensures { result ≡ names_terms (rows_of (found_of matches.now)) }
-{
-    word_if(matches, "budget").is_some()
-        || word_if(matches, "limit").is_some()
-        || word_if(matches, "today").is_some()
-        || word_if(matches, "from").is_some()
-        || word_if(matches, BACKUP).is_some()
-}
-
-/// Whether they say what becomes of its tables.
-fn says_outcome(matches: &ArgMatches<'_>) -> bool
-    ensures { result ≡ says_outcome (rows_of (found_of matches.now)) }
-{
-    is_set(matches, REHEARSE)
-        || is_set(matches, ONLY_FINISHED)
-        || is_set(matches, NEW_OWNER)
-        || is_set(matches, NO_LOCK)
-        || is_set(matches, KEEP_UNCHANGED)
-}
-
-/// Whether words say what a conversation that goes on has been asked for already.
-fn asks_anew(matches: &ArgMatches<'_>) -> bool
-    ensures { result ≡ asks_anew (rows_of (found_of matches.now)) }
-{
-    names_terms(matches) || says_outcome(matches)
-}
-
 /// The day of a run where the words say one.
 fn day_if_said(matches: &ArgMatches<'_>) -> Result<Option<RunDay>, WordsFault>
     ensures told { IfOk result (IsNamedIf IsDayNamed (word_given (codes "today") (rows_of (found_of matches.now)))) }
@@ -249,21 +252,36 @@ fn new_talk_of<'a>(matches: &ArgMatches<'a>) -> Result<TalkWords<'a>, WordsFault
     })
 }
 
-/// What a conversation is asked for; none where it goes on.
-fn talk_of<'a>(matches: &ArgMatches<'a>) -> Result<Option<TalkWords<'a>>, WordsFault>
-    ensures told { IfOk result (IsTalkIf (rows_of (found_of matches.now))) }
+/// The options that are given again when a conversation goes on.
+fn repeated_of<'a>(matches: &ArgMatches<'a>) -> Result<RepeatedWords<'a>, WordsFault>
+    ensures told { IfOk result (IsRepeated (rows_of (found_of matches.now))) }
+    ensures refused { IfErr result (RepeatedRefused (rows_of (found_of matches.now))) }
+{
+    Ok(RepeatedWords {
+        budget: number_if(matches, "budget"),
+        limit: limit_if_said(matches)?,
+        day: day_if_said(matches)?,
+        page: page_of(matches)?,
+        rehearse: is_set(matches, REHEARSE),
+        save: save_of(matches),
+    })
+}
+
+/// Whether a conversation begins or goes on, and the options for it.
+fn talk_of<'a>(matches: &ArgMatches<'a>) -> Result<TalkAsked<'a>, WordsFault>
+    ensures told { IfOk result (IsTalkAsked (rows_of (found_of matches.now))) }
     ensures refused { IfErr result (TalkRefused (rows_of (found_of matches.now))) }
 {
-    if !is_set(matches, CONTINUE) {
-        return match new_talk_of(matches) {
-            Ok(talk) => Ok(Some(talk)),
+    if is_set(matches, CONTINUE) {
+        return match repeated_of(matches) {
+            Ok(repeated) => Ok(TalkAsked::GoesOn(repeated)),
             Err(fault) => Err(fault),
         };
     }
-    if asks_anew(matches) {
-        return Err(WordsFault::Continued);
+    match new_talk_of(matches) {
+        Ok(talk) => Ok(TalkAsked::Begins(talk)),
+        Err(fault) => Err(fault),
     }
-    Ok(None)
 }
 
 /// How a conversation is shown.

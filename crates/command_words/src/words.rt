@@ -7,8 +7,8 @@ ghost use Rattle.clap.specs.Matches.{found_of};
 ghost use Rattle.clap.specs.Simple.{app_of, subcommand_rows_of, with_rule};
 ghost use Rattle.clap.specs.Walk.{rows_of, rule_of};
 ghost use Rattle.run_commands.specs.Days.{IsDayNamed};
-ghost use Rattle.command_words.specs.Asked.{lent, IsNumberIf, IsNumberOr, IsPageNamed, IsJob};
-ghost use Rattle.command_words.specs.Asked.{AreOutcomes, IsListAsked, AsksFor, Asks};
+ghost use Rattle.command_words.specs.Asked.{lent, IsNumberIf, IsNumberOr, IsPageNamed, IsPageIfKnown, IsJob};
+ghost use Rattle.command_words.specs.Asked.{IsSave, AreOutcomes, IsListAsked, AsksFor, Asks};
 ghost use Rattle.command_words.specs.Refused.{Lacks, NoDay, NoLimit, NoPage, SavesToo, JobRefused, RunRefused};
 ghost use Rattle.command_words.specs.Refused.{ListingRefused, RefusedBehind, RefusesWords};
 ghost use Rattle.command_words.specs.CommandLine.{needed_word, needed_words, flag_word, valued_word, taking, alone};
@@ -37,8 +37,10 @@ pub enum WordsFault {
     Today,
     /// The most records of a table isn't one of 1 to 1,000,000.
     Limit,
-    /// The code page of a listing is none that is known.
+    /// The code page of --from isn't known.
     Page,
+    /// The code page that the environment names isn't known.
+    PageVariable,
     /// A word is missing.
     Missing,
     /// The folder for copies is neither absent nor empty.
@@ -51,12 +53,12 @@ pub enum WordsFault {
     Screens,
     /// The size of a window isn't written as ROWSxCOLUMNS.
     Window,
-    /// A conversation that goes on is asked for what it was asked for already.
-    Continued,
     /// A rehearsal is told how to save.
     Rehearsed,
     /// The day is to be the computer's, and that isn't known.
     Zone,
+    /// Memory was refused while the environment was read.
+    Memory,
 }
 
 /// On which terms the tables of a run are saved.
@@ -90,6 +92,8 @@ pub enum Outcomes<'a> {
 pub struct RunWords<'a> {
     /// The run; nothing is typed yet.
     pub job: Job<'a>,
+    /// Whether its day is the one that counts if no other is given.
+    pub day_left_out: bool,
     pub tables: Outcomes<'a>,
     /// The file to which the screens before each line and the last one are written.
     pub screens: Option<&'a str>,
@@ -134,22 +138,33 @@ pub enum Words<'a> {
 /// The version of all that stands in this repository.
 const VERSION: &str = "0.9.0";
 
-/// An example of the commands that belong together, and how they exit.
+/// An example session, and the exit statuses.
 const FURTHER: &str = "Example:
   dbrun compile FIRM.DCL DAY.XBC DAY.PRG ENTRY.PRG POST.PRG REPORT.PRG REORDER.PRG PRICES.PRG
   dbrun run DAY.XBC --rehearse < day.txt
   dbrun run DAY.XBC --today 1985-01-15 < day.txt
   dbrun list ORDERS.DBF
 
-Status:
+A run that ends early, with status 3, 4 or 5, saves what it did until then; see dbrun run --help.
+
+Exit status:
   0  finished, accepted, listed or written
-  1  wrong words, and help
-  2  a refused file
-  3  the budget is spent
-  4  a table is full
-  5  memory was refused
-  6  the device or standard output failed, another run has the folder, or a run only finished an earlier one's save
-  7  a fault under check-run";
+  1  wrong arguments, or help was printed
+  2  a file was refused
+  3  spent: the budget was exhausted
+  4  full: a table reached its record limit
+  5  memory: an allocation failed
+  6  disk: a device or standard output failed, another run holds the folder, or the command only completed the
+     interrupted save of an earlier run
+  7  fault: check-run stopped at a run-time fault";
+
+/// What `run` says of runs that end early, and an example.
+const RUN_FURTHER: &str = "\
+A run that ends early, because the budget is spent, a table is full or memory is short, saves what it did until then.
+--only-finished saves nothing in that case, --rehearse saves nothing at all, and --backup keeps the old files. The
+budget counts steps, not seconds: use timeout 60 dbrun run .. to bound the time.
+
+Example (after compile): dbrun run DAY.XBC --today 1985-01-15 < day.txt";
 
 /// The words that name files.
 pub(crate) const FILE: &str = "FILE";
@@ -165,15 +180,15 @@ pub(crate) const REHEARSE: &str = "rehearse";
 
 const CHANGES: &str = "changes";
 
-pub(crate) const ONLY_FINISHED: &str = "only-finished";
+const ONLY_FINISHED: &str = "only-finished";
 
-pub(crate) const BACKUP: &str = "backup";
+const BACKUP: &str = "backup";
 
-pub(crate) const NEW_OWNER: &str = "new-owner";
+const NEW_OWNER: &str = "new-owner";
 
-pub(crate) const NO_LOCK: &str = "no-lock";
+const NO_LOCK: &str = "no-lock";
 
-pub(crate) const KEEP_UNCHANGED: &str = "keep-unchanged";
+const KEEP_UNCHANGED: &str = "keep-unchanged";
 
 /// A command with a word more.
 pub(crate) fn with_word<'a>(command: Command<'a>, word: Arg<'a>) -> Result<Command<'a>, AllocError>
@@ -227,21 +242,21 @@ fn lister<'a>(alloc: Global) -> Result<Command<'a>, AllocError>
     let command = reader(
         alloc,
         "list",
-        "Lists a table",
+        "Prints the records of a table",
         "TABLE",
         "Example: dbrun list CUST.DBF --csv --from cp437",
     )?;
     let csv = flag(
         alloc,
         "csv",
-        "Comma-separated values, with the marks in a first column DELETED",
+        "Prints comma-separated values; a first column DELETED has the deletion marks",
     );
     let command = with_word(command, csv)?;
     with_word(
         command,
         page(
             alloc,
-            "The code page of the table's texts, cp437 or cp850: prints UTF-8",
+            "The code page of the table's texts, cp437 or cp850; prints UTF-8 (with --csv, left out: DBRUN_PAGE)",
         ),
     )
 }
@@ -254,8 +269,8 @@ pub(crate) struct RunHelp<'a> {
 
 /// What it says of runs that take all lines beforehand.
 const HELP: RunHelp<'static> = RunHelp {
-    budget: "The most that the run may cost, below 2^64 (1000000 if left out)",
-    today: "The day of the run, in the years 1900 to 2155 (1985-01-01 if left out)",
+    budget: "The most steps that the run may take, below 2^64 (default: 1000000)",
+    today: "The date of the run, in the years 1900 to 2155 (default: 1985-01-01)",
 };
 
 fn budget<'a>(alloc: Global, help: &'a str) -> Arg<'a>
@@ -271,7 +286,7 @@ fn limit<'a>(alloc: Global) -> Arg<'a>
         alloc,
         "limit",
         "N",
-        "The most records that a table may have, 1 to 1000000 (1000000 if left out)",
+        "The most records that a table may have, 1 to 1000000 (default: 1000000)",
     )
     .value_parser(value_parser!(u32))
 }
@@ -310,29 +325,33 @@ pub(crate) fn saver<'a>(alloc: Global, command: Command<'a>) -> Result<Command<'
     let rehearse = flag(
         alloc,
         REHEARSE,
-        "Saves nothing, and tells what a run would save",
+        "Saves nothing, and reports what a run would save (a dry run)",
     );
     let only_finished = flag(
         alloc,
         ONLY_FINISHED,
-        "Saves nothing unless the run finished",
+        "Saves only if the run finished",
     );
     let backup = valued(
         alloc,
         BACKUP,
         "FOLDER",
-        "Copies all that is replaced to this folder first, which is absent or empty",
+        "Copies the files to be replaced to this folder first (new, empty, or left by an interrupted run)",
     );
     let new_owner = flag(
         alloc,
         NEW_OWNER,
-        "Lets new files be yours where the old owner or group can't be kept",
+        "Lets new files be yours if the owner or group of the old ones can't be kept",
     );
-    let no_lock = flag(alloc, NO_LOCK, "Saves where the file system knows no locks");
+    let no_lock = flag(
+        alloc,
+        NO_LOCK,
+        "Saves on a file system without locks; dbrun.lock keeps other runs out meanwhile",
+    );
     let keep_unchanged = flag(
         alloc,
         KEEP_UNCHANGED,
-        "Leaves files as they are whose records the program did not change",
+        "Replaces only files whose records or keys the program changed",
     );
     let command = with_word(command, rehearse)?;
     let command = with_word(command, only_finished)?;
@@ -348,12 +367,12 @@ fn forgetter<'a>(alloc: Global) -> Result<Command<'a>, AllocError>
     let command = made(
         alloc,
         "forget",
-        "Takes away a save that was cut off: its new files, and no table",
+        "Discards an interrupted save: removes its new files and dbrun.lock, and changes no table",
         "Example: dbrun forget",
     );
     with_word(
         command,
-        flag(alloc, NO_LOCK, "Where the file system knows no locks"),
+        flag(alloc, NO_LOCK, "For a file system without locks"),
     )
 }
 
@@ -379,7 +398,7 @@ fn declarations<'a>(alloc: Global) -> Arg<'a>
 fn sources<'a>(alloc: Global) -> Arg<'a>
     ensures { rule_of result ≡ needed_words (codes "MAIN") }
 {
-    given(alloc, SOURCES, "The command files, the main one first").num_args(1..)
+    given(alloc, SOURCES, "The command files, main file first").num_args(1..)
 }
 
 fn compiler<'a>(alloc: Global) -> Result<Command<'a>, AllocError>
@@ -404,7 +423,7 @@ fn checker<'a>(alloc: Global) -> Result<Command<'a>, AllocError>
     let command = made(
         alloc,
         "faults",
-        "Lists all faults of DECL and of command files, and writes nothing",
+        "Lists all faults of DECL and of the command files, and writes nothing",
         "Example: dbrun faults FIRM.DCL DAY.PRG ENTRY.PRG POST.PRG REPORT.PRG REORDER.PRG PRICES.PRG",
     );
     let command = with_word(command, declarations(alloc))?;
@@ -419,8 +438,8 @@ fn saving_runner<'a>(alloc: Global) -> Result<Command<'a>, AllocError>
     let run = runner(
         alloc,
         "run",
-        "Runs a code file that the verifier accepts, and saves its tables",
-        "Example, behind that of compile: dbrun run DAY.XBC --today 1985-01-15 < day.txt",
+        "Verifies and runs a code file, then saves all its tables or none, even if it ends early",
+        RUN_FURTHER,
         &HELP,
     )?;
     with_word(saver(alloc, run)?, screens(alloc))
@@ -434,11 +453,11 @@ fn testing_runner<'a>(alloc: Global) -> Result<Command<'a>, AllocError>
     let run = runner(
         alloc,
         "check-run",
-        "Runs any code file, and stops before a fault; saves nothing",
-        "Example, behind that of compile: dbrun check-run DAY.XBC --changes < day.txt",
+        "Runs any code file, verified or not, with run-time checks, and saves nothing",
+        "Example (after compile): dbrun check-run DAY.XBC --changes < day.txt",
         &HELP,
     )?;
-    with_word(run, flag(alloc, CHANGES, "Tells what a run would save"))
+    with_word(run, flag(alloc, CHANGES, "Reports what a run would save"))
 }
 
 /// A command with one that was made below it.
@@ -458,9 +477,9 @@ fn verifier<'a>(alloc: Global) -> Result<Command<'a>, AllocError>
     reader(
         alloc,
         "verify",
-        "Tells whether a code file is accepted",
+        "Reports whether the verifier accepts a code file",
         "CODE",
-        "Example, behind that of compile: dbrun verify DAY.XBC",
+        "Example (after compile): dbrun verify DAY.XBC",
     )
 }
 
@@ -470,9 +489,9 @@ fn code_lister<'a>(alloc: Global) -> Result<Command<'a>, AllocError>
     reader(
         alloc,
         "code",
-        "Lists a code file",
+        "Prints the instructions of a code file",
         "CODE",
-        "Example, behind that of compile: dbrun code DAY.XBC",
+        "Example (after compile): dbrun code DAY.XBC",
     )
 }
 
@@ -482,9 +501,9 @@ fn index_lister<'a>(alloc: Global) -> Result<Command<'a>, AllocError>
     reader(
         alloc,
         "index",
-        "Lists an index file",
+        "Prints the keys of an index file",
         "INDEX",
-        "Example, behind that of run: dbrun index ORDKEY.NDX",
+        "Example (after run): dbrun index ORDKEY.NDX",
     )
 }
 
@@ -494,7 +513,7 @@ fn declarer<'a>(alloc: Global) -> Command<'a>
     made(
         alloc,
         "declare",
-        "Prints a declaration file of the tables and indexes in the current folder",
+        "Prints a declaration file for the tables and indexes in the current folder",
         "Example: dbrun declare > MADE.DCL",
     )
 }
@@ -551,20 +570,32 @@ fn budget_of(matches: &ArgMatches<'_>) -> u64
     number_if(matches, "budget").unwrap_or(DEFAULT_BUDGET)
 }
 
-pub(crate) fn limit_of(matches: &ArgMatches<'_>) -> Result<RecordLimit, WordsFault>
-    ensures told { IfOk result
-        (IsNumberOr 1000000 (word_given (codes "limit") (rows_of (found_of matches.now)))) }
+/// The most records of a table that the words say, if they do.
+pub(crate) fn limit_if_said(matches: &ArgMatches<'_>) -> Result<Option<RecordLimit>, WordsFault>
+    ensures told { IfOk result (IsNumberIf (word_given (codes "limit") (rows_of (found_of matches.now)))) }
     ensures refused { IfErr result (NoLimit (word_given (codes "limit") (rows_of (found_of matches.now)))) }
 {
     let Some(number) = number_if(matches, "limit") else {
-        return Ok(RecordLimit::most());
+        return Ok(None);
     };
     if number > 1_000_000 {
         return Err(WordsFault::Limit);
     }
     match RecordLimit::of(number as u32) {
-        Some(limit) => Ok(limit),
+        Some(limit) => Ok(Some(limit)),
         None => Err(WordsFault::Limit),
+    }
+}
+
+pub(crate) fn limit_of(matches: &ArgMatches<'_>) -> Result<RecordLimit, WordsFault>
+    ensures told { IfOk result
+        (IsNumberOr 1000000 (word_given (codes "limit") (rows_of (found_of matches.now)))) }
+    ensures refused { IfErr result (NoLimit (word_given (codes "limit") (rows_of (found_of matches.now)))) }
+{
+    match limit_if_said(matches) {
+        Ok(Some(limit)) => Ok(limit),
+        Ok(None) => Ok(RecordLimit::most()),
+        Err(fault) => Err(fault),
     }
 }
 
@@ -579,16 +610,28 @@ fn day_of(matches: &ArgMatches<'_>) -> Result<RunDay, WordsFault>
     RunDay::named(word).ok_or(WordsFault::Today)
 }
 
+/// The code page of this name, if it is one that is known.
+pub fn page_named(name: &str) -> Option<CodePage>
+    ensures { IsPageIfKnown name.now result }
+{
+    match name {
+        "cp437" => Some(CodePage::Cp437),
+        "cp850" => Some(CodePage::Cp850),
+        _ => None,
+    }
+}
+
 #[tactic(auto, using(crate::proofs::Rows::same_word))]
 pub(crate) fn page_of(matches: &ArgMatches<'_>) -> Result<Option<CodePage>, WordsFault>
     ensures told { IfOk result (IsPageNamed (rows_of (found_of matches.now))) }
     ensures refused { IfErr result (NoPage (word_given (codes "from") (rows_of (found_of matches.now)))) }
 {
-    match matches.get_str("from") {
-        Some("cp437") => Ok(Some(CodePage::Cp437)),
-        Some("cp850") => Ok(Some(CodePage::Cp850)),
-        Some(_) => Err(WordsFault::Page),
-        None => Ok(None),
+    let Some(name) = matches.get_str("from") else {
+        return Ok(None);
+    };
+    match page_named(name) {
+        Some(page) => Ok(Some(page)),
+        None => Err(WordsFault::Page),
     }
 }
 
@@ -623,18 +666,25 @@ fn job_of<'a>(matches: &ArgMatches<'a>, checked: bool) -> Result<Job<'a>, WordsF
     })
 }
 
-/// What becomes of the tables of a run that may save them.
-pub(crate) fn run_outcomes<'a>(matches: &ArgMatches<'a>) -> Result<Outcomes<'a>, WordsFault>
-    ensures told { IfOk result (AreOutcomes (rows_of (found_of matches.now))) }
-    ensures refused { IfErr result (SavesToo (rows_of (found_of matches.now))) }
+/// On which terms the words say that tables are saved.
+pub(crate) fn save_of<'a>(matches: &ArgMatches<'a>) -> SaveWords<'a>
+    ensures { IsSave (rows_of (found_of matches.now)) result }
 {
-    let save = SaveWords {
+    SaveWords {
         only_finished: is_set(matches, ONLY_FINISHED),
         backup: word_if(matches, BACKUP),
         new_owner: is_set(matches, NEW_OWNER),
         no_lock: is_set(matches, NO_LOCK),
         keep_unchanged: is_set(matches, KEEP_UNCHANGED),
-    };
+    }
+}
+
+/// What becomes of the tables of a run that may save them.
+pub(crate) fn run_outcomes<'a>(matches: &ArgMatches<'a>) -> Result<Outcomes<'a>, WordsFault>
+    ensures told { IfOk result (AreOutcomes (rows_of (found_of matches.now))) }
+    ensures refused { IfErr result (SavesToo (rows_of (found_of matches.now))) }
+{
+    let save = save_of(matches);
     if !is_set(matches, REHEARSE) {
         return Ok(Outcomes::Saved(save));
     }
@@ -654,6 +704,7 @@ fn run_of<'a>(matches: &ArgMatches<'a>) -> Result<Words<'a>, WordsFault>
     match job_of(matches, false) {
         Ok(job) => Ok(Words::Run(RunWords {
             job,
+            day_left_out: word_if(matches, "today").is_none(),
             tables,
             screens,
         })),
@@ -674,6 +725,7 @@ fn tested_run_of<'a>(matches: &ArgMatches<'a>) -> Result<Words<'a>, WordsFault>
     match job_of(matches, true) {
         Ok(job) => Ok(Words::Run(RunWords {
             job,
+            day_left_out: word_if(matches, "today").is_none(),
             tables,
             screens: None,
         })),

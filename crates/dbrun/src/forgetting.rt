@@ -21,8 +21,8 @@ fn is_lock_draft(name: &str) -> bool {
     }
 }
 
-/// Whether a file's name is that of a draft of a lock file, or of a text beside a journal: the name of a save's file, a point, the
-/// journal's name, and what says which text it is.
+/// Whether a file's name is that of a draft of a lock file, or of a text beside a journal: the name of a save's file, a
+/// point, the journal's name, and what says which text it is.
 fn is_draft(name: &str) -> bool {
     if is_lock_draft(name) {
         return true;

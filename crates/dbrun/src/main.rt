@@ -12,6 +12,7 @@ mod forgetting;
 mod operate;
 mod progress;
 mod rehearsing;
+mod repeating;
 mod screens;
 mod shown;
 
@@ -58,6 +59,7 @@ use command_words::SaveWords;
 use command_words::Words;
 use command_words::WordsFault;
 use command_words::command;
+use command_words::page_named;
 use command_words::sources_of;
 use command_words::words_of;
 use compile_commands::CompileFilesRefusal;
@@ -113,6 +115,7 @@ use shape_files::ShapeRefusal;
 use std::alloc::AllocError;
 use std::alloc::Global;
 use std::env;
+use std::env::VarError;
 use std::fs::File;
 use std::io;
 use std::io::IsTerminal;
@@ -126,6 +129,9 @@ const INPUT_LIMIT: usize = 1_048_576;
 
 /// The most reads of what an operator types: two for each byte.
 const INPUT_TURNS: usize = 2_097_152;
+
+/// The variable of the environment that stands for --from.
+const PAGE_VARIABLE: &str = "DBRUN_PAGE";
 
 /// The most bytes of all names of a folder: 64 MiB.
 const NAMES_LIMIT: usize = 67_108_864;
@@ -778,6 +784,12 @@ fn run<R: Runtime<A = Global, File = File>>(
         Ok(known) => known,
         Err(status) => return status,
     };
+    if audience.person && words.day_left_out {
+        let _ = eprintln!(rt;
+            "the date of this run is {}; --today YYYY-MM-DD gives another one",
+            words.job.day
+        );
+    }
     match typed(rt, audience) {
         Ok(input) => run_typed(rt, audience, words, input.as_slice(), known),
         Err(status) => status,
@@ -875,15 +887,45 @@ fn table_lines<'a, R: Runtime<A = Global, File = File>>(
     }
 }
 
+/// The code page that the environment names, if it names one.
+fn page_of_environment<R: Runtime<A = Global>>(rt: &R) -> Result<Option<CodePage>, WordsFault> {
+    match env::var(rt, PAGE_VARIABLE) {
+        Ok(name) => match page_named(name.as_str()) {
+            Some(page) => Ok(Some(page)),
+            None => Err(WordsFault::PageVariable),
+        },
+        Err(VarError::NotPresent) => Ok(None),
+        Err(VarError::NotUnicode) => Err(WordsFault::PageVariable),
+        Err(VarError::OutOfMemory) => Err(WordsFault::Memory),
+    }
+}
+
+/// The code page of --from, or that of the environment if that option is left out.
+pub fn page_for<R: Runtime<A = Global>>(
+    rt: &R,
+    given: Option<CodePage>,
+) -> Result<Option<CodePage>, WordsFault> {
+    match given {
+        Some(page) => Ok(Some(page)),
+        None => page_of_environment(rt),
+    }
+}
+
+/// Prints the records of a table. The environment's code page counts for comma-separated values only.
 fn list<R: Runtime<A = Global, File = File>>(
     rt: &R,
     audience: Audience,
     listing: Listing<'_>,
-) -> Status {
+) -> Result<Status, WordsFault> {
+    let page = if listing.csv {
+        page_for(rt, listing.page)?
+    } else {
+        listing.page
+    };
     let _ = settle(rt, audience);
     match table_lines(rt, audience, listing) {
-        Ok(lines) => print_listing(rt, audience, listing.page, lines.as_slice()),
-        Err(refusal) => refuse(rt, audience, refusal),
+        Ok(lines) => Ok(print_listing(rt, audience, page, lines.as_slice())),
+        Err(refusal) => Ok(refuse(rt, audience, refusal)),
     }
 }
 
@@ -1010,7 +1052,7 @@ fn carry_out<R: Runtime<A = Global, File = File>>(
         Words::Operate(words) => operate(rt, audience, words),
         Words::Verify { name } => Ok(verify(rt, audience, name)),
         Words::Code { name } => Ok(code(rt, audience, name)),
-        Words::List(listing) => Ok(list(rt, audience, *listing)),
+        Words::List(listing) => list(rt, audience, *listing),
         Words::Index { name } => Ok(index(rt, audience, name)),
         Words::Declare => Ok(declare_folder(rt, audience)),
         Words::Forget { no_lock } => Ok(forget_save(rt, audience, *no_lock)),
@@ -1061,20 +1103,19 @@ fn message(fault: WordsFault) -> &'static str {
     match fault {
         WordsFault::Today => "the day of --today is YYYY-MM-DD, in the years 1900 to 2155",
         WordsFault::Page => "the code page of --from is cp437 or cp850",
+        WordsFault::PageVariable => "the code page of DBRUN_PAGE is cp437 or cp850",
         WordsFault::Limit => "the number of --limit is one of 1 to 1000000",
-        WordsFault::Backup => "the folder of --backup is neither absent nor empty",
+        WordsFault::Backup => "--backup needs a new or an empty folder",
         WordsFault::Window => "the size of --window is ROWSxCOLUMNS",
         WordsFault::Journal =>
             "the file of --journal is a plain name here of at most 238 bytes, and none that the run uses",
         WordsFault::Screens =>
             "the file of --screens is a plain name in this folder, of which no file stands",
-        WordsFault::Continued =>
-            "a conversation that goes on has the options with which it was begun",
         WordsFault::Rehearsed =>
             "a rehearsal saves nothing; leave out --only-finished, --backup, --new-owner and --keep-unchanged",
         WordsFault::Zone =>
             "the zone of TZ isn't known, or its day isn't in the years 1900 to 2155; give --today",
-        WordsFault::Missing | WordsFault::Out(_) => "a word is missing",
+        WordsFault::Missing | WordsFault::Out(_) | WordsFault::Memory => "an argument is missing",
     }
 }
 
@@ -1106,6 +1147,7 @@ fn refuse_fault<R: Runtime<A = Global, File = File>>(
     fault: WordsFault,
 ) -> Status {
     let told = match fault {
+        WordsFault::Memory => return no_memory(rt),
         WordsFault::Out(what) => out_message(rt.alloc(), audience, matches, what),
         _ => String::from_str(rt.alloc(), message(fault)),
     };

@@ -3,14 +3,19 @@
 ghost use Rattle.std.specs.Prelude.{◌≡◌, false};
 
 use crate::escaped::tell;
-use crate::rehearsing::{seen_folder, tell_real_end};
+use crate::rehearsing::{report_rehearsal, seen_folder};
 use crate::screens::{is_backup, is_free_name, is_new_name, is_path_of};
 use crate::shown::{Audience, Progress, RecordedName, of_end};
 use crate::{
-    finish_before, first_failed, folder, has_no_tables, hindered, may_back_up, refuse,
+    finish_before, first_failed, folder, has_no_tables, hindered, may_back_up, page_for, refuse,
     tell_hindered, tell_lock_file, tell_unfinished, tell_unsaved,
 };
-use command_words::{DEFAULT_BUDGET, OperateWords, Outcomes, ShownWords, TalkWords, WordsFault};
+use crate::repeating::is_repeated;
+use code_pages::CodePage;
+use command_words::{
+    DEFAULT_BUDGET, OperateWords, Outcomes, RepeatedWords, ShownWords, TalkAsked, TalkWords,
+    WordsFault,
+};
 use file_access::{FILE_LIMIT, Files, ReadFault};
 use file_commands::{Refusal, Status};
 use folder_files::{
@@ -167,6 +172,7 @@ fn talk_of(
     audience: Audience,
     words: &TalkWords<'_>,
     day: RunDay,
+    page: Option<CodePage>,
 ) -> Result<Talk, AllocError> {
     let budget = if audience.typing {
         u64::MAX
@@ -178,7 +184,7 @@ fn talk_of(
         limit: words.limit,
         day,
         save: save_of(alloc, words.tables)?,
-        page: words.page,
+        page,
     })
 }
 
@@ -721,8 +727,7 @@ fn end_rehearsed<R: Runtime<A = Global, File = File>>(
     if let Err(why) = print_rest(rt, audience, desk, told.rows.as_slice()) {
         return tell_unprinted(rt, audience, open.names, why);
     }
-    let _ = eprint!(rt; "{told}");
-    tell_real_end(rt, audience, open.code);
+    report_rehearsal(rt, audience, open.code, told);
     tell_unsaved_end(rt, audience, open, journal, &told.ended)
 }
 
@@ -1115,11 +1120,12 @@ fn said_of<R: Runtime<A = Global, File = File>>(
     }
 }
 
-/// Takes up a conversation as it was begun.
+/// Takes up a conversation as it was begun; options that are given again must be those with which it was begun.
 fn go_on<'a, R: Runtime<A = Global, File = File>>(
     rt: &'a R,
     audience: Audience,
     words: &'a OperateWords<'a>,
+    repeated: &RepeatedWords<'_>,
     names: &'a Names,
 ) -> Result<Status, WordsFault> {
     let said = match said_of(rt, audience, names) {
@@ -1129,6 +1135,9 @@ fn go_on<'a, R: Runtime<A = Global, File = File>>(
     let Some(talk) = talk_in(rt.alloc(), &said) else {
         return Ok(tell_foreign(rt, audience, names));
     };
+    if let Err(status) = is_repeated(rt, audience, &said, names.begun.as_str(), repeated) {
+        return Ok(status);
+    }
     if is_backup(words.shown.screens, backup_of(&talk)) {
         return Err(WordsFault::Screens);
     }
@@ -1191,7 +1200,8 @@ fn begin_asked<R: Runtime<A = Global, File = File>>(
     let Some(day) = day_of(rt, asked) else {
         return Err(WordsFault::Zone);
     };
-    match talk_of(rt.alloc(), audience, asked, day) {
+    let page = page_for(rt, asked.page)?;
+    match talk_of(rt.alloc(), audience, asked, day, page) {
         Ok(talk) => Ok(begin(rt, audience, words, names, &talk, None)),
         Err(_) => Ok(refuse(rt, audience, Refusal::Memory)),
     }
@@ -1208,8 +1218,8 @@ fn operate_named<R: Runtime<A = Global, File = File>>(
         return Err(WordsFault::Screens);
     }
     match &words.talk {
-        Some(asked) => begin_asked(rt, audience, words, asked, names),
-        None => go_on(rt, audience, words, names),
+        TalkAsked::Begins(asked) => begin_asked(rt, audience, words, asked, names),
+        TalkAsked::GoesOn(repeated) => go_on(rt, audience, words, repeated, names),
     }
 }
 

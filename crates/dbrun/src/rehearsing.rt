@@ -4,8 +4,8 @@ use crate::progress::run_told;
 use crate::screens::rehearse_shown;
 use crate::shown::{Audience, Progress, why_hindered};
 use crate::{first_failed, no_memory, print_bytes, refuse, report, settle, tell_unfinished};
-use file_access::Files;
-use file_commands::{Refusal, Status, read_code};
+use file_access::{FILE_LIMIT, Files};
+use file_commands::{Refusal, Status};
 use folder_files::{FileSum, Folder, Hindrance, Nobody, RealEnd, SeenFolder, Unseen, real_end};
 use run_commands::{Job, Rehearsal};
 use std::alloc::{AllocError, Global};
@@ -14,6 +14,11 @@ use std::fs::File;
 use std::rt::Runtime;
 use std::time::Duration;
 use std::{str, thread};
+use xcode::decode;
+
+/// What to do about a long filter.
+const LONG_FILTER: &str =
+    "the budget counts a step for each record that a filter is asked of, whatever its length; timeout bounds the time";
 
 /// The name of the file of a table or an index.
 fn file_name(alloc: Global, name: &[u8], ending: &str) -> Result<String, AllocError> {
@@ -21,15 +26,10 @@ fn file_name(alloc: Global, name: &[u8], ending: &str) -> Result<String, AllocEr
     format!(in alloc; "{name}{ending}")
 }
 
-/// The files of the tables and indexes that a code declares, those of tables first; none if no code can be read.
-pub fn declared_files<R: Runtime<A = Global, File = File>>(
-    rt: &R,
-    code: &str,
-) -> Result<Vec<String>, AllocError> {
-    let alloc = rt.alloc();
+/// The files of the tables and indexes that a code declares, those of tables first; none if the bytes aren't a code's.
+fn files_declared(alloc: Global, code: &[u8]) -> Result<Vec<String>, AllocError> {
     let mut names = Vec::new(alloc);
-    let mut files = Folder::new(rt, Nobody);
-    let Ok(code) = read_code(alloc, &mut files, code) else {
+    let Ok(code) = decode(alloc, code) else {
         return Ok(names);
     };
     let shape = &code.code().declared.shape;
@@ -42,6 +42,22 @@ pub fn declared_files<R: Runtime<A = Global, File = File>>(
         names.push(name)?;
     }
     Ok(names)
+}
+
+/// What a code's file holds, if it can be read.
+fn code_bytes<R: Runtime<A = Global, File = File>>(rt: &R, code: &str) -> Option<Vec<u8>> {
+    Folder::new(rt, Nobody).read(rt.alloc(), code, FILE_LIMIT).ok()
+}
+
+/// The files that the code in a file declares, those of tables first; none if no code can be read.
+pub fn declared_files<R: Runtime<A = Global, File = File>>(
+    rt: &R,
+    code: &str,
+) -> Result<Vec<String>, AllocError> {
+    match code_bytes(rt, code) {
+        Some(bytes) => files_declared(rt.alloc(), bytes.as_slice()),
+        None => Ok(Vec::new(rt.alloc())),
+    }
 }
 
 /// The names as they are borrowed, after a first one.
@@ -84,37 +100,42 @@ const TRIES: u32 = 4;
 /// The milliseconds between two tries.
 const PAUSE: u64 = 100;
 
-/// Reads the files of these names at one moment. A committed save is finished first; one that can't be finished is read
-/// as it was left.
+/// Reads a code, and the tables and indexes that it declares, at one moment. A committed save is finished first; one
+/// that can't be finished is read as it was left.
 fn seen_once<'a, R: Runtime<A = Global, File = File>>(
     rt: &'a R,
     audience: Audience,
-    names: &[&str],
+    code: &str,
     sums: Option<&'a RefCell<Vec<FileSum>>>,
 ) -> Result<SeenFolder<'a, R, Progress<'a, R>>, Unseen> {
     let cut = settle(rt, audience);
-    SeenFolder::new(Folder::new(rt, Progress { rt, audience, sums }), names, cut)
+    let bytes = code_bytes(rt, code);
+    let bytes = bytes.as_ref().map(|bytes| bytes.as_slice());
+    let names = files_declared(rt.alloc(), bytes.unwrap_or(&[]))?;
+    let names = lent(rt.alloc(), code, names.as_slice())?;
+    let folder = Folder::new(rt, Progress { rt, audience, sums });
+    let seen = SeenFolder::new(folder, names.as_slice(), cut)?;
+    if seen.first_held(bytes) {
+        return Ok(seen);
+    }
+    // the code was compiled again, and may declare other files now
+    let name = String::from_str(rt.alloc(), code)?;
+    Err(Unseen::Changing { name })
 }
 
 /// The folder of a run that saves nothing: the files of a code, its tables and indexes are those of one moment. Where
-/// another program changes one meanwhile, all are read again. Their
-/// checksums are noted where that is asked for.
+/// another program changes one meanwhile, all are read again. Their checksums are noted where that is asked for.
 pub fn seen_folder<'a, R: Runtime<A = Global, File = File>>(
     rt: &'a R,
     audience: Audience,
     code: &str,
     sums: Option<&'a RefCell<Vec<FileSum>>>,
 ) -> Result<SeenFolder<'a, R, Progress<'a, R>>, Status> {
-    let Ok(names) = declared_files(rt, code) else {
-        return Err(no_memory(rt));
-    };
-    let Ok(names) = lent(rt.alloc(), code, names.as_slice()) else {
-        return Err(no_memory(rt));
-    };
     let mut unseen = Unseen::Memory;
     for _ in 0..TRIES {
-        match seen_once(rt, audience, names.as_slice(), sums) {
+        match seen_once(rt, audience, code, sums) {
             Ok(seen) => return Ok(seen),
+            Err(Unseen::Memory) => return Err(no_memory(rt)),
             Err(found) => unseen = found,
         }
         thread::sleep(rt, Duration::from_millis(PAUSE));
@@ -141,7 +162,7 @@ fn tell_end_of_run<R: Runtime<A = Global, File = File>>(
 }
 
 /// Tells on standard error how a run of this code would end that saves, if something here would keep it from saving.
-pub fn tell_real_end<R: Runtime<A = Global, File = File>>(rt: &R, audience: Audience, code: &str) {
+fn tell_real_end<R: Runtime<A = Global, File = File>>(rt: &R, audience: Audience, code: &str) {
     let Ok(names) = declared_files(rt, code) else {
         return;
     };
@@ -200,8 +221,22 @@ pub fn rehearse<R: Runtime<A = Global, File = File>>(
     }
 }
 
-/// Prints the rows of a rehearsal, and tells what a run would have saved, what would have kept it from that, and how it
-/// ended.
+/// Reports on standard error what a run would have saved, and what would have kept it from that. A person is told how
+/// to bound the time of a run whose filters are long.
+pub fn report_rehearsal<R: Runtime<A = Global, File = File>>(
+    rt: &R,
+    audience: Audience,
+    code: &str,
+    done: &Rehearsal,
+) {
+    let _ = eprint!(rt; "{done}");
+    if audience.person && done.has_long_filter() {
+        let _ = eprintln!(rt; "  {LONG_FILTER}.");
+    }
+    tell_real_end(rt, audience, code);
+}
+
+/// Prints the rows of a rehearsal, and reports what a run would have saved and how it ended.
 fn tell_rehearsed<R: Runtime<A = Global, File = File>>(
     rt: &R,
     audience: Audience,
@@ -209,8 +244,7 @@ fn tell_rehearsed<R: Runtime<A = Global, File = File>>(
     done: &Rehearsal,
 ) -> Status {
     let printed = print_bytes(rt, audience, done.rows.as_slice());
-    let _ = eprint!(rt; "{done}");
-    tell_real_end(rt, audience, code);
+    report_rehearsal(rt, audience, code, done);
     let _ = eprintln!(rt; "{}", done.ended);
     first_failed(printed, done.ended.status())
 }

@@ -126,8 +126,8 @@ fn slot_at<R: Disk + Alloc<A = Global>>(rt: &R, entry: &PaperEntry) -> Result<Sl
     Ok(slot_by(target, new, entry))
 }
 
-/// What stands at each file that a plan or a note names. A plan is taken away whatever stands there. The first file that
-/// another program changed is the last one that is looked at, because nothing is done then.
+/// What stands at each file that a plan or a note names. A plan is taken away whatever stands there. The first file
+/// that another program changed is the last one that is looked at, because nothing is done then.
 fn slots_of<R: Disk + Alloc<A = Global>>(
     rt: &R,
     paper: &SavePaper,

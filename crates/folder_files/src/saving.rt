@@ -294,7 +294,8 @@ impl<'a, R: Disk<File = File> + Alloc<A = Global>, L: Listener> SavingFolder<'a,
         }
     }
 
-    /// The files that are to be replaced, by their numbers among those that were handed in.
+    /// The files that are to be replaced, by their numbers among those that were handed in: those that are to hold
+    /// other bytes than were read. `to_hold` has compared records and keys where the terms ask for it.
     fn replaced(&self) -> Result<Vec<usize>, AllocError> {
         let alloc = self.folder.rt.alloc();
         let mut files = Vec::new(alloc);
@@ -305,7 +306,7 @@ impl<'a, R: Disk<File = File> + Alloc<A = Global>, L: Listener> SavingFolder<'a,
                 new: pending.bytes.as_slice(),
             })?;
         }
-        files_replaced(alloc, files.as_slice(), self.terms.keep_unchanged)
+        files_replaced(alloc, files.as_slice(), false)
     }
 
     /// The checksum of what a file held when it was read, or of what it holds now if it wasn't. A file that is longer

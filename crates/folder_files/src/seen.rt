@@ -178,6 +178,19 @@ impl<'a, R: Disk<File = File> + Alloc<A = Global>, L: Listener + Drop> SeenFolde
         }
     }
 
+    /// Whether the first file, that of the code, held these bytes at that moment; none if it couldn't be read.
+    pub fn first_held(&self, bytes: Option<&[u8]>) -> bool {
+        match self.seen.first() {
+            Some(
+                Seen {
+                    read: Some(Ok(held)),
+                    ..
+                },
+            ) => bytes == Some(held.as_slice()),
+            _ => bytes.is_none(),
+        }
+    }
+
     /// Why a file wasn't read, if it is a link that leaves the folder.
     pub fn hindrance(&self) -> Option<Hindrance> {
         self.hindrance

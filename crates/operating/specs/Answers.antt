@@ -41,7 +41,8 @@ BrokeOff before after broken.Memory = after ≡ before
 -- ---- why the operator failed
 
 -- why the operator failed last, before and after a call: the call's failure is noted, and else all stays
-abbrev pub NotesFailure : {A : Type 0} → Result A OperatorFailed → Option OperatorFailed → Option OperatorFailed → Type 0
+abbrev pub NotesFailure : {A : Type 0} → Result A OperatorFailed → Option OperatorFailed → Option OperatorFailed
+    → Type 0
 NotesFailure (Ok answer) before after = after ≡ before
 NotesFailure (Err why) before after = after ≡ Some why
 

@@ -31,8 +31,8 @@ pub struct Scene<'a> {
     pub place: usize,
     /// At a marked place, where the next instruction shows a value on the screen, if it does; else none.
     pub shown: Option<ShownAt>,
-    /// Where a line is asked for: the field in which its value is stored, if that is a field of the selected table; else
-    /// none.
+    /// Where a line is asked for: the field in which its value is stored, if that is a field of the selected table;
+    /// else none.
     pub field: Option<FieldSize>,
 }
 

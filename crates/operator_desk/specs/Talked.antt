@@ -1,12 +1,13 @@
 -- The words of a conversation, as the text of its beginning says them.
 use Rattle.std.specs.Prelude.{◌≡◌, ℕ, List, Bool, true, false, Option, Some, None, codes}
-use Rattle.std.specs.Prelude.{if◌then◌else◌, option_and_then}
+use Rattle.std.specs.Prelude.{if◌then◌else◌, option_and_then, string_bytes, unwrap_or}
 use Rattle.std.specs.Str.{bytes_eq}
 use Rattle.code_pages.specs.declared.pages.CodePage.{CodePage}
 use Rattle.code_pages.specs.declared.pages.CodePage.TheVariants.{Cp437, Cp850}
 use Rattle.journal_papers.specs.declared.paper.JournalPaper.{JournalPaper}
 use Rattle.operator_desk.specs.declared.begun.Talk.{Talk}
 use Rattle.operator_desk.specs.declared.begun.TalkSave.{TalkSave}
+use Rattle.operator_desk.specs.declared.repeated.RepeatedOption.{RepeatedOption}
 use Rattle.toml.specs.Data.{as_str, get_member}
 use Rattle.toml.specs.View.{table_view}
 
@@ -18,6 +19,14 @@ save_without_lock (Some save) = save.no_lock
 -- the word under a key
 abbrev pub word_said : JournalPaper → List ℕ → Option (List ℕ)
 word_said paper key = option_and_then as_str (get_member key (table_view paper.table))
+
+-- the value with which a session was begun: an option that the text of its beginning leaves out is a no
+abbrev pub value_begun : JournalPaper → List ℕ → List ℕ
+value_begun paper name = unwrap_or (word_said paper name) (codes "no")
+
+-- the session was begun with this value of the option
+abbrev pub is_as_begun : JournalPaper → RepeatedOption → Bool
+is_as_begun paper option = bytes_eq (value_begun paper option.name.now) (string_bytes option.value)
 
 -- a yes or a no
 abbrev pub flag_said : Option (List ℕ) → Option Bool

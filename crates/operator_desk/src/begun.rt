@@ -61,8 +61,8 @@ fn yes_no(is: bool) -> &'static str
     if is { "yes" } else { "no" }
 }
 
-/// The word of a code page.
-fn page_word(page: Option<CodePage>) -> &'static str
+/// The name of a code page, or `none`.
+pub fn page_word(page: Option<CodePage>) -> &'static str
     ensures { page_said (Some result.now) ≡ Some page }
 {
     match page {
@@ -130,8 +130,8 @@ fn is_yes(paper: &JournalPaper, key: &str) -> Option<bool>
     None
 }
 
-/// Whether a word is a yes. Where nothing is said under its key, as in a text that an earlier program wrote, it is a no;
-/// none where what is said is neither.
+/// Whether a word is a yes. Where nothing is said under its key, as in a text that an earlier program wrote, it is a
+/// no; none where what is said is neither.
 fn is_yes_if_said(paper: &JournalPaper, key: &str) -> Option<bool>
     ensures { result ≡ flag_if_said (word_said paper.now key.now) }
 {

@@ -4,8 +4,8 @@
 ghost use Rattle.operating.specs.declared.operator.OperatorFailed.TheVariants.{Memory as ForMemory, Other as ForOther};
 ghost use Rattle.operator_desk.specs.Beginnings.{changed_of};
 ghost use Rattle.operator_desk.specs.Openings.{NamesNoMore, NamesOne, is_opened};
-ghost use Rattle.std.specs.Prelude.{◌≡◌, ◌<◌, Err, IfErr, IfOk, IfSome, IsErr, IsOk, MatchOption, None, OnErr, OnOk, false};
-ghost use Rattle.std.specs.Prelude.{is_some, length, slice_get, string_bytes, true};
+ghost use Rattle.std.specs.Prelude.{◌≡◌, ◌<◌, Err, IfErr, IfOk, IfSome, IsErr, IsOk, MatchOption, None, OnErr, OnOk};
+ghost use Rattle.std.specs.Prelude.{false, is_some, length, slice_get, string_bytes, true};
 
 use crate::begun::{Talk, put_talk};
 use folder_files::{FileSum, Tail, put_new_file};
@@ -89,8 +89,8 @@ impl<'a, R: Runtime<A = Global, File = File>> Record<'a, R> {
     /// The sums are those of the files of its run as they were read, first that of its code.
     ///
     /// # Errors
-    /// `Memory` if memory was refused, and then no file is named. Otherwise `changed` names the first file that isn't as
-    /// it was, or `unwritten` the text that can't be written.
+    /// `Memory` if memory was refused, and then no file is named. Otherwise `changed` names the first file that isn't
+    /// as it was, or `unwritten` the text that can't be written.
     pub fn begin(
         &mut self,
         alloc: Global,

@@ -282,7 +282,7 @@ leaves_over a job typed code seen done run from store tables shown found limit l
     (sound whole w) alone same changed told
 
 pub rehearsed_over : (a : Holds) (job : Job) (typed : List ℕ) (code seen : Code) (done : Compared) → seen ≡ code
-    → Accepted seen → job.checked ≡ false → (told : Rehearsal) → IsToldAs seen.declared.shape done told
+    → Accepted seen → job.checked ≡ false → (told : Rehearsal) → IsToldAs seen.declared done told
     → ((whole : Job) → IsWith job typed whole → LeavesTables a whole code done.outcome done.rows.items done.changes)
     → (whole : Job) → IsWith job typed whole → IsRehearsed a whole told code
 rehearsed_over a job typed code seen done lent accepted untested told h leaves = λ whole w.

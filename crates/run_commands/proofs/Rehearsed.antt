@@ -12,7 +12,7 @@ use Rattle.run_commands.specs.declared.rehearsing.Compared.{Compared}
 use Rattle.run_commands.specs.declared.machines.Run.{Run}
 use Rattle.run_commands.specs.declared.rehearsing.Rehearsal.{Rehearsal}
 use Rattle.run_commands.specs.Parts.{IsOfTables, CodeRefused}
-use Rattle.run_commands.specs.Rehearsals.{LeavesTables, IsRehearsed, IsToldAs}
+use Rattle.run_commands.specs.Rehearsals.{LeavesTables, IsLongest, IsRehearsed, IsToldAs}
 use Rattle.run_commands.specs.Reports.{MayLoad, IsTold}
 use Rattle.run_commands.proofs.Ran.{left_soundly}
 use Rattle.run_commands.proofs.Same.{loaded_same}
@@ -45,6 +45,7 @@ rehearsed_same a b same job told code h = record {
   ended = h.ended;
   tables = h.tables;
   indexes = h.indexes;
+  longest = h.longest;
 }
 
 pub rehearsed : (a b : Holds) → SameFiles a b → (job : Job) (code : Code) → IsCodeFile (a job.name.now) code
@@ -104,7 +105,7 @@ may_accepted job code seen tests lent accepted =
 -- ---- a comparison, told
 
 pub rehearsed_from : (a : Holds) (job : Job) (code seen : Code) (done : Compared) → seen ≡ code → MayLoad job code
-    → (result : Result Rehearsal RunRefusal) → IfOk result (IsToldAs seen.declared.shape done)
+    → (result : Result Rehearsal RunRefusal) → IfOk result (IsToldAs seen.declared done)
     → LeavesTables a job code done.outcome done.rows.items done.changes
     → IfOk result (λ told. IsRehearsed a job told code)
 rehearsed_from a job code seen done lent may (Ok told) h leaves = record {
@@ -119,6 +120,7 @@ rehearsed_from a job code seen done lent may (Ok told) h leaves = record {
   indexes =
       subst (λ (s : Code). told.indexes.items ≡ map (λ (x : IndexShape). x.name) s.declared.shape.indexes) lent
       h.indexes;
+  longest = subst (λ (s : Code). IsLongest s.declared.filters told.longest_filter) lent h.longest;
 }
 rehearsed_from a job code seen done lent may (Err refusal) h leaves = h
 

@@ -96,9 +96,8 @@ fn rehearse_accepted_talk<F: Files, J: Journal, O: Operator>(
     ensures broke { IfErr result (OperationBroke (J.failed journal.old) (J.failed journal.new)) }
     ensures cause { OperationFails result (O.failure operator.old) (O.failure operator.new) }
 {
-    let shape = &verified.code().declared.shape;
     let done = compare_talk(alloc, files, verified, job, most, journal, operator)?;
-    match told_of(alloc, shape, done) {
+    match told_of(alloc, &verified.code().declared, done) {
         Ok(told) => Ok(told),
         Err(refusal) => Err(OperateRefusal::Run(refusal)),
     }

@@ -1,12 +1,12 @@
 // Runs that save nothing, and what they would have saved.
 #![tactic(auto)]
 
-ghost use Rattle.std.specs.Prelude.{◌≡◌, ◌≤◌, true, false, map, IfOk, IfErr, Ok};
+ghost use Rattle.std.specs.Prelude.{◌≡◌, ◌≤◌, ◌<◌, ◌↔◌, IsTrue, true, false, map, IfOk, IfErr, Ok};
 ghost use Rattle.file_access.specs.Holding.{Rose, SameFiles};
 ghost use Rattle.file_commands.specs.Reports.{HasCode};
 ghost use Rattle.run_commands.specs.declared.refusal.RunRefusal.TheVariants.{Memory};
 ghost use Rattle.run_commands.specs.Parts.{IsOfTables, CodeRefused};
-ghost use Rattle.run_commands.specs.Rehearsals.{IsRehearsed, IsToldAs, LeavesTables};
+ghost use Rattle.run_commands.specs.Rehearsals.{IsLongest, IsRehearsed, IsToldAs, LeavesTables};
 ghost use Rattle.run_commands.specs.Reports.{RefusedBefore};
 
 use crate::ending::{Ended, ended_of, put_name};
@@ -15,18 +15,22 @@ use crate::machines::{Run, run_accepted, run_any};
 use crate::refusal::RunRefusal;
 use crate::running::{accept, of_code};
 use code_items::laws::legal_codes;
+use code_items::{Declared, Filter};
 use file_access::Files;
 use file_commands::read_code;
 use legal_code::LegalCode;
 use run_laws::laws::new_stores_fit;
 use run_parts::{Unwatched, Watcher};
 use run_steps::Outcome;
-use shape::{IndexShape, Name, Shape, TableShape, copy_of_name};
+use shape::{IndexShape, Name, TableShape, copy_of_name};
 use std::alloc::{AllocError, Global};
 use std::fmt;
 use table_changes::{Changes, RowCounts, changes_since, keep};
 use table_files::load;
 use xverify::Verified;
+
+/// The most instructions of a filter that isn't reported.
+const SHORT_FILTER: u16 = 64;
 
 /// A run that saved nothing: the bytes for printing, how it ended, what became of each declared table and index, and
 /// their names.
@@ -37,6 +41,8 @@ pub struct Rehearsal {
     pub changes: Changes,
     pub tables: Vec<Name>,
     pub indexes: Vec<Name>,
+    /// How many instructions the longest filter of the code has; 0 if it has none.
+    pub longest_filter: u16,
 }
 
 /// A run that left its tables, compared with those before it.
@@ -134,17 +140,30 @@ fn compare_accepted<F: Files, W: Watcher>(
     Ok(with_changes(done.alone(), changes)?)
 }
 
-/// A comparison as it is told, of a code of this shape.
-pub(crate) fn told_of(alloc: Global, shape: &Shape, done: Compared) -> Result<Rehearsal, RunRefusal>
-    ensures told { IfOk result (IsToldAs shape.now done) }
+/// How many instructions the longest of these filters has; 0 if there is none.
+fn longest(filters: &[Filter]) -> u16
+    ensures { IsLongest filters.now result }
+{
+    filters.iter().map(|filter| filter.length).max().unwrap_or(0)
+}
+
+/// A comparison as it is reported, of a code with these declarations.
+pub(crate) fn told_of(
+    alloc: Global,
+    declared: &Declared,
+    done: Compared,
+) -> Result<Rehearsal, RunRefusal>
+    ensures told { IfOk result (IsToldAs declared.now done) }
     ensures refused { IfErr result (λ refusal. refusal ≡ Memory) }
 {
+    let shape = &declared.shape;
     Ok(Rehearsal {
         tables: table_names(alloc, shape.tables.as_slice())?,
         indexes: index_names(alloc, shape.indexes.as_slice())?,
         rows: done.rows,
         ended: ended_of(done.outcome, shape),
         changes: done.changes,
+        longest_filter: longest(declared.filters.as_slice()),
     })
 }
 
@@ -164,7 +183,7 @@ fn rehearse_any<F: Files, W: Watcher>(
     ensures counted { F.failed files.old ≤ F.failed files.new }
 {
     match compare_any(alloc, files, code, job, watcher) {
-        Ok(done) => told_of(alloc, &code.code().declared.shape, done),
+        Ok(done) => told_of(alloc, &code.code().declared, done),
         Err(refusal) => Err(refusal),
     }
 }
@@ -184,9 +203,8 @@ fn rehearse_accepted<F: Files, W: Watcher>(
     ensures kept { SameFiles (F.holds files.old) (F.holds files.new) }
     ensures counted { F.failed files.old ≤ F.failed files.new }
 {
-    let shape = &verified.code().declared.shape;
     match compare_accepted(alloc, files, verified, job, watcher) {
-        Ok(done) => told_of(alloc, shape, done),
+        Ok(done) => told_of(alloc, &verified.code().declared, done),
         Err(refusal) => Err(refusal),
     }
 }
@@ -291,14 +309,32 @@ impl Rehearsal {
         }
         Ok(())
     }
+
+    /// Whether a filter of the code has more than 64 instructions. The budget doesn't count the instructions of
+    /// filters, so a run with such a filter may take long within its budget.
+    pub fn has_long_filter(&self) -> bool
+        ensures { IsTrue result ↔ (64 < self.now.longest_filter) }
+    {
+        self.longest_filter > SHORT_FILTER
+    }
+
+    /// The longest filter, in a line, unless all filters are short.
+    fn put_longest<W: fmt::Write>(&self, f: &mut fmt::Formatter<W>) -> fmt::Result {
+        if self.has_long_filter() {
+            writeln!(f, "longest filter {} instructions", self.longest_filter)?;
+        }
+        Ok(())
+    }
 }
 
-/// What a run would have saved, in lines: the rows of each table, and the indexes that are made anew.
+/// What a run would have saved, in lines: the records of each table, the indexes that are rebuilt, and the longest
+/// filter if it isn't short.
 impl fmt::Display for Rehearsal {
     fn fmt<W: fmt::Write>(&self, f: &mut fmt::Formatter<W>) -> fmt::Result {
         for (name, counts) in self.tables.iter().zip(self.changes.tables.iter()) {
             put_counts(f, name, counts)?;
         }
-        self.put_made(f)
+        self.put_made(f)?;
+        self.put_longest(f)
     }
 }

@@ -76,8 +76,8 @@ fn are_different(names: &[&[u8]]) -> bool
     true
 }
 
-/// Whether one record may name all these files: at most `MOST_RECORDED`, and no two names are equal. There are two names
-/// for each file, its own and that of its new file.
+/// Whether one record may name all these files: at most `MOST_RECORDED`, and no two names are equal. There are two
+/// names for each file, its own and that of its new file.
 pub fn may_be_recorded(names: &[&[u8]]) -> bool
     ensures { IsTrue result ↔ spec.MayBeRecorded names.now }
 {

@@ -61,8 +61,8 @@ fn table_in(alloc: Global, bytes: &[u8]) -> Result<Option<Table>, AllocError>
     }
 }
 
-/// What a table's file would be with a stamp of zeros and nothing after its last row; none for other bytes. So two files
-/// hold one table just if these bytes are equal.
+/// What a table's file would be with a stamp of zeros and nothing after its last row; none for other bytes. So two
+/// files hold one table just if these bytes are equal.
 fn unstamped(alloc: Global, bytes: &[u8]) -> Result<Option<Vec<u8>>, AllocError>
     ensures { IfOk result (λ found. MatchOption found
         ((structure : StructureState) (rows : List Row) → ¬ spec.TextOfTable bytes.now structure rows)
@@ -196,10 +196,10 @@ fn stays(alloc: Global, file: &HandedIn<'_>, keep_unchanged: bool) -> Result<boo
     hold_the_same(alloc, file.name, read, file.new)
 }
 
-/// The numbers, from 0 and rising, of the files that are replaced. A file whose new bytes are those that were read isn't
-/// replaced. With `keep_unchanged` neither is a table's file that holds the same structure and rows, whatever its stamp
-/// and the bytes after its last row, nor an index's file that holds the same key and pairs, whatever its pages. A file
-/// that wasn't read is replaced.
+/// The numbers, from 0 and rising, of the files that are replaced. A file whose new bytes are those that were read
+/// isn't replaced. With `keep_unchanged` neither is a table's file that holds the same structure and rows, whatever its
+/// stamp and the bytes after its last row, nor an index's file that holds the same key and pairs, whatever its pages. A
+/// file that wasn't read is replaced.
 ///
 /// # Errors
 /// Memory was refused. One table or index at a time is read from both its old and its new bytes.

@@ -39,7 +39,8 @@ with_change (DraftPlaced paper) s = record s { paper = paper; draft = false }
 with_change DraftGone s = record s { draft = false }
 with_change PaperGone s = record s { paper = Absent }
 with_change (FileMade name bytes) s = record s { file = put_under s.file name (Some bytes) }
-with_change (FileMoved first second bytes) s = record s { file = put_under (put_under s.file second (Some bytes)) first None }
+with_change (FileMoved first second bytes) s =
+    record s { file = put_under (put_under s.file second (Some bytes)) first None }
 with_change (FileGone name) s = record s { file = put_under s.file name None }
 
 -- the folder with all of these changes, in their order

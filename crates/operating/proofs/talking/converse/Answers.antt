@@ -1,7 +1,7 @@
 use Rattle.std.proofs.Common.{inl, refl}
 use Rattle.std.proofs.lemmas.Result.{err_from_is_err_and}
-use Rattle.operating.proofs.AnswerLemmas.{failed_before, journal_unfailed, kept_all, kept_behind, kept_none, kept_untold}
-use Rattle.operating.proofs.AnswerLemmas.{on_err, unkept_none}
+use Rattle.operating.proofs.AnswerLemmas.{failed_before, journal_unfailed, kept_all, kept_behind, kept_none}
+use Rattle.operating.proofs.AnswerLemmas.{kept_untold, on_err, unkept_none}
 use Rattle.operating.proofs.talking.converse.Goals as goal
 
 pub returns-in_err-marks-clause-unkept : goal.returns-in_err-marks-clause-unkept
