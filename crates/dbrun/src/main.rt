@@ -887,9 +887,10 @@ fn table_lines<'a, R: Runtime<A = Global, File = File>>(
     }
 }
 
-/// The code page that the environment names, if it names one.
+/// The code page that the environment names, if it names one. An empty variable names none.
 fn page_of_environment<R: Runtime<A = Global>>(rt: &R) -> Result<Option<CodePage>, WordsFault> {
     match env::var(rt, PAGE_VARIABLE) {
+        Ok(name) if name.is_empty() => Ok(None),
         Ok(name) => match page_named(name.as_str()) {
             Some(page) => Ok(Some(page)),
             None => Err(WordsFault::PageVariable),
