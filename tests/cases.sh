@@ -60,7 +60,11 @@ unlike() {
 }
 
 # in_harness CODE WORDS..: runs code of Python that uses tests/harness.py
-in_harness() { PYTHONPATH="$top/tests" python3 -B -c "import sys, harness; $@"; }
+in_harness() {
+    code=$1; shift
+    PYTHONPATH="$top/tests" python3 -B -c "import sys, harness
+$code" "$@"
+}
 
 verdict() {
     in_harness 'sys.exit(harness.verdict(*map(int, sys.argv[1:])))' "$passed" "$failed" "$skipped"
