@@ -1,5 +1,9 @@
-"""What the builders of the program share: which crates it stands on, where a build stands, one build at a time, and
-what scripts know of the toolchain."""
+#!/usr/bin/env python3
+"""What the builders of the program share: which crates it uses, where a build is kept, one build at a time, and what
+scripts know of the toolchain.
+
+    bin/building.py proved|unproved     ends with status 0 if the build of this kind was made of the sources as they are
+"""
 
 import contextlib
 import ctypes
@@ -41,7 +45,7 @@ REFUSED = re.compile(r"rt: (.+?): refused, as it must be.*")
 # Of the tests' runner: a test that passed, and how many there are.
 TEST_PASSED, TESTS = re.compile(r"test .+ \.\.\. ok"), re.compile(r"tests: (\d+)")
 # The last line of `rt ci`, and of each script of tests/.
-VERDICT = re.compile(r"(\d+) passed, (\d+) failed")
+VERDICT = re.compile(r"(\d+) passed, (\d+) failed(?:, (\d+) skipped)?")
 
 # What both builds link with, before a program and behind it, and what they need of the toolchain.
 FIRST = [f"toolchain/lib/{it}" for it in ("Scrt1.o", "crti.o", "crtbeginS.o")]
@@ -191,25 +195,47 @@ def parts_of(crates, *kinds):
     return ["crates.txt", *(f"crates/{name}/{kind}" for name in crates for kind in kinds)]
 
 
-def there(parts):
-    return [it for it in parts if os.path.exists(f"{TOP}/{it}")]
+def below(folder, parts):
+    """These parts of a folder, and each file and folder below them."""
+    for part in parts:
+        if os.path.exists(f"{folder}/{part}"):
+            yield part
+        for at, folders, files in os.walk(f"{folder}/{part}"):
+            yield from (f"{at[len(folder) + 1:]}/{it}" for it in [*folders, *files])
 
 
-def state_of(parts):
+def changed_at(path):
+    """When the state of a file or folder changed last, as `stat -c %.9Z` prints it."""
+    seconds, rest = divmod(os.lstat(path).st_ctime_ns, 10**9)
+    return f"{seconds}.{rest:09}"
+
+
+def state_of(parts, folder=TOP):
     """What any change of these parts of the repository changes: each file and folder, and when its state changed last.
-    bin/dbrun asks the same. (No ages are compared: a file may be dated in the future, or as another is.)"""
-    words = ["find", *there(parts), "-printf", r"%p %C@\n"]
-    ran = subprocess.run(words, cwd=TOP, stdin=subprocess.DEVNULL, capture_output=True, text=True, check=False)
-    return "".join(sorted(ran.stdout.splitlines(True)))
+    bin/dbrun computes the same. (No ages are compared: a file may be dated in the future, or as another is.)"""
+    lines = [f"{it} {changed_at(f'{folder}/{it}')}\n" for it in below(folder, parts)]
+    return "".join(sorted(lines, key=os.fsencode))
 
 
-def sum_of(parts):
-    """The sum of the names and bytes of these parts, which another owner, date or copy of theirs leaves. bin/dbrun asks
-    the same of sha256sum."""
-    words = ["tar", "-c", "--sort=name", "--mtime=@0", "--numeric-owner", "--owner=0", "--group=0", "--mode=0"]
-    words += there(parts)
-    ran = subprocess.run(words, cwd=TOP, stdin=subprocess.DEVNULL, capture_output=True, check=False)
-    return f"{hashlib.sha256(ran.stdout).hexdigest()}  -\n"
+def sum_of(parts, folder=TOP):
+    """The checksum of the names and bytes of these parts, which doesn't depend on owners, dates and modes."""
+    total = hashlib.sha256()
+    for name in sorted(below(folder, parts), key=os.fsencode):
+        path = f"{folder}/{name}"
+        if os.path.isfile(path) and not os.path.islink(path):
+            with open(path, "rb") as it:
+                total.update(os.fsencode(f"{name}\0{hashlib.sha256(it.read()).hexdigest()}\n"))
+    return f"{total.hexdigest()}\n"
+
+
+def is_current(kind):
+    """Whether the build of a kind was made of the sources as they are; not while another start is building it."""
+    place = f"{OUT}/{kind}"
+    with contextlib.suppress(OSError), open(f"{place}/lock", encoding="ascii") as lock:
+        fcntl.flock(lock, fcntl.LOCK_SH | fcntl.LOCK_NB)
+        parts = read(f"{place}/sources").splitlines()
+        return stands(place, parts, state_of(parts))
+    return False
 
 
 def stands(place, parts, state):
@@ -351,3 +377,8 @@ def end_with(build, interrupted, instead=""):
     except OSError as error:
         say(f"{told_of(error)}{instead}")
     sys.exit(1)
+
+
+if __name__ == "__main__":
+    answer_help()
+    sys.exit(not is_current(*sys.argv[1:2]))

@@ -7,6 +7,7 @@ room=$(mktemp -d) || exit 1
 trap 'rm -rf "$room"' EXIT
 passed=0
 failed=0
+skipped=0
 
 passes() { passed=$((passed + 1)); }
 
@@ -43,8 +44,29 @@ holds() {
     if "$@"; then passes; else fails "$meaning"; fi
 }
 
+# same FILE FILE: whether both hold the same bytes
+same() { [ "$(sha256sum < "$1")" = "$(sha256sum < "$2")" ]; }
+
+# like PATTERN FILE, unlike PATTERN FILE: the lines that a pattern of `case` matches, and those that it doesn't
+like() {
+    while IFS= read -r line; do
+        case $line in $1) printf '%s\n' "$line" ;; esac
+    done < "$2"
+}
+unlike() {
+    while IFS= read -r line; do
+        case $line in $1) ;; *) printf '%s\n' "$line" ;; esac
+    done < "$2"
+}
+
+# in_harness CODE WORDS..: runs code of Python that uses tests/harness.py
+in_harness() {
+    code=$1; shift
+    PYTHONPATH="$top/tests" python3 -B -c "import sys, harness
+$code" "$@"
+}
+
 verdict() {
-    PYTHONPATH="$top/tests" python3 -B -c 'import sys, harness; sys.exit(harness.verdict(*map(int, sys.argv[1:])))' \
-        "$passed" "$failed"
+    in_harness 'sys.exit(harness.verdict(*map(int, sys.argv[1:])))' "$passed" "$failed" "$skipped"
     exit
 }

@@ -1,5 +1,7 @@
 """What the scripts of tests/ and bench/ that are written in Python share."""
 
+import functools
+import importlib.util
 import os
 import pty
 import re
@@ -12,6 +14,58 @@ TOP = os.path.dirname(os.path.dirname(os.path.realpath(__file__)))
 sys.path.append(f"{TOP}/bin")
 
 from building import answer_help
+
+
+# With this in the environment a test that lacks a tool or a right fails; without it the test is skipped.
+ALL_TOOLS = "TABLEREEF_ALL_TOOLS"
+# The line of a test that is skipped: the test, and what it lacks.
+SKIPPED = re.compile(r"skipped: [^:]+: .+")
+# The rights that tests need beside tools.
+ROOT, NAMESPACES = "root", "user, mount and network namespaces"
+
+
+def lacks(*needs):
+    """The first of these tools, Python modules (as python3-NAME) and rights that this machine lacks, or None."""
+    for need in needs:
+        if need == ROOT:
+            has = os.geteuid() == 0
+        elif need == NAMESPACES:
+            has = has_namespaces()
+        elif need.startswith("python3-"):
+            has = getattr(importlib.util.find_spec(need.removeprefix("python3-")), "origin", None) is not None
+        else:
+            has = shutil.which(need) is not None
+        if not has:
+            return need
+    return None
+
+
+@functools.cache
+def has_namespaces():
+    """Whether `unshare` is installed and may make user, mount and network namespaces."""
+    if shutil.which("unshare") is None:
+        return False
+    return subprocess.run(["unshare", "-rmn", "true"], capture_output=True, check=False).returncode == 0
+
+
+def take_python_with(*modules):
+    """Begins the script again with the first python3 on the search path that has these modules, if this one hasn't."""
+    answer_help()
+    if not lacks(*(f"python3-{it}" for it in modules)):
+        return
+    for folder in os.environ.get("PATH", "").split(":"):
+        python = f"{folder}/python3"
+        words = [python, "-c", f"import {', '.join(modules)}"]
+        if os.access(python, os.X_OK) and not subprocess.run(words, capture_output=True, check=False).returncode:
+            os.execv(python, [python, *sys.argv])
+
+
+def linked_tools(folder, tools):
+    """The search path of a new folder with only these commands."""
+    os.makedirs(folder)
+    for tool in tools:
+        os.symlink(sys.executable if tool == "python3" else shutil.which(tool), f"{folder}/{tool}")
+    return folder
 
 
 def program(kind=None):
@@ -66,18 +120,36 @@ def instructions(words, **named):
     return int(found[-1]) if found and not ran.returncode else None
 
 
-def verdict(passed, failed):
-    """Prints the last line of a test, and gives its status; nothing tried is a failure."""
-    failed += not passed and not failed
-    print(f"{passed} passed, {failed} failed", flush=True)
+def verdict(passed, failed, skipped=0):
+    """Prints the last line of a test, and returns its status; nothing tried and nothing skipped is a failure."""
+    failed += not passed and not failed and not skipped
+    print(f"{passed} passed, {failed} failed{f', {skipped} skipped' * bool(skipped)}", flush=True)
     return 1 if failed else 0
 
 
+def may_skip(test, lacking):
+    """Whether a test that lacks a tool or a right is skipped, which is printed, or fails."""
+    if ALL_TOOLS in os.environ:
+        print(f"{test}: it needs {lacking}", flush=True)
+        return False
+    print(f"skipped: {test}: {lacking}", flush=True)
+    return True
+
+
+def end_if_lacking(part, *needs):
+    """Ends the script of a part that needs a tool or a right which this machine lacks."""
+    answer_help()
+    lacking = lacks(*needs)
+    if lacking:
+        is_skipped = may_skip(part, lacking)
+        sys.exit(verdict(0, int(not is_skipped), int(is_skipped)))
+
+
 class Count:
-    """How many tries passed, and how many failed."""
+    """How many tries passed, failed and were skipped."""
 
     def __init__(self):
-        self.passed = self.failed = 0
+        self.passed = self.failed = self.skipped = 0
 
     def holds(self, so, what):
         """Counts a try, and prints what was found where it failed."""
@@ -90,5 +162,14 @@ class Count:
     def is_same(self, what, found, wanted):
         self.holds(found == wanted, f"{what}: {str(found)[:300]}, not {str(wanted)[:300]}")
 
+    def has(self, test, *needs):
+        """Whether this machine has the tools and rights that a test needs. If not, the test is skipped or fails."""
+        lacking = lacks(*needs)
+        if lacking and may_skip(test, lacking):
+            self.skipped += 1
+        elif lacking:
+            self.failed += 1
+        return not lacking
+
     def verdict(self):
-        return verdict(self.passed, self.failed)
+        return verdict(self.passed, self.failed, self.skipped)

@@ -1,4 +1,5 @@
 * Takes orders in a form until no customer is given. What became of each stands below the form.
+* A quantity that can't be is asked for again, twice at most: at the end of the input each answer is empty.
 @ 0,0 SAY "Order form"
 LINE = 5
 MORE = .T.
@@ -13,6 +14,12 @@ DO WHILE MORE
    IF WHO = SPACE(4)
       MORE = .F.
    ELSE
+      TRIES = 1
+      DO WHILE TRIES < 3 .AND. (MANY < 1 .OR. MANY > 99999 .OR. MANY <> INT(MANY))
+         @ 3,0 SAY "Quantity" GET MANY
+         READ
+         TRIES = TRIES + 1
+      ENDDO
       DO BOOK WITH UPPER(WHO), UPPER(WHAT), MANY
       LINE = IIF(LINE < 24, LINE + 1, 5)
    ENDIF
@@ -33,7 +40,7 @@ DO CASE
       @ LINE,0 SAY "No customer " + WHO
    CASE .NOT. FOUND()
       @ LINE,0 SAY "No part " + WHAT
-   CASE MANY < 1
+   CASE MANY < 1 .OR. MANY > 99999 .OR. MANY <> INT(MANY)
       @ LINE,0 SAY "No quantity of " + TITLE
    OTHERWISE
       SELECT ORDERS
