@@ -327,11 +327,7 @@ pub(crate) fn saver<'a>(alloc: Global, command: Command<'a>) -> Result<Command<'
         REHEARSE,
         "Saves nothing, and reports what a run would save (a dry run)",
     );
-    let only_finished = flag(
-        alloc,
-        ONLY_FINISHED,
-        "Saves only if the run finished",
-    );
+    let only_finished = flag(alloc, ONLY_FINISHED, "Saves only if the run finished");
     let backup = valued(
         alloc,
         BACKUP,

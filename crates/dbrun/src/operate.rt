@@ -4,13 +4,13 @@ ghost use Rattle.std.specs.Prelude.{◌≡◌, false};
 
 use crate::escaped::tell;
 use crate::rehearsing::{report_rehearsal, seen_folder};
+use crate::repeating::is_repeated;
 use crate::screens::{is_backup, is_free_name, is_new_name, is_path_of};
 use crate::shown::{Audience, Progress, RecordedName, of_end};
 use crate::{
     finish_before, first_failed, folder, has_no_tables, hindered, may_back_up, page_for, refuse,
     tell_hindered, tell_lock_file, tell_unfinished, tell_unsaved,
 };
-use crate::repeating::is_repeated;
 use code_pages::CodePage;
 use command_words::{
     DEFAULT_BUDGET, OperateWords, Outcomes, RepeatedWords, ShownWords, TalkAsked, TalkWords,

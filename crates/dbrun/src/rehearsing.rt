@@ -46,7 +46,9 @@ fn files_declared(alloc: Global, code: &[u8]) -> Result<Vec<String>, AllocError>
 
 /// What a code's file holds, if it can be read.
 fn code_bytes<R: Runtime<A = Global, File = File>>(rt: &R, code: &str) -> Option<Vec<u8>> {
-    Folder::new(rt, Nobody).read(rt.alloc(), code, FILE_LIMIT).ok()
+    Folder::new(rt, Nobody)
+        .read(rt.alloc(), code, FILE_LIMIT)
+        .ok()
 }
 
 /// The files that the code in a file declares, those of tables first; none if no code can be read.

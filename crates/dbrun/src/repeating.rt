@@ -1,8 +1,8 @@
 //! Options that are given again when a session is resumed.
 
 use crate::escaped::tell;
-use crate::shown::Audience;
 use crate::no_memory;
+use crate::shown::Audience;
 use command_words::RepeatedWords;
 use file_commands::Status;
 use journal_papers::JournalPaper;
@@ -92,7 +92,9 @@ pub fn is_repeated<R: Runtime<A = Global>>(
         tell(
             rt,
             audience,
-            &format_args!("error: {name} is {value} here, and {then} in {begun}; leave it out to resume the session"),
+            &format_args!(
+                "error: {name} is {value} here, and {then} in {begun}; leave it out to resume the session"
+            ),
         );
     }
     Err(Status::Words)

@@ -36,5 +36,7 @@ fn is_as_begun(paper: &JournalPaper, option: &RepeatedOption) -> bool
 pub fn first_different(paper: &JournalPaper, options: &[RepeatedOption]) -> Option<usize>
     ensures { result ≡ position (λ option. not (is_as_begun paper.now option)) options.now }
 {
-    options.iter().position(|option| !is_as_begun(paper, option))
+    options
+        .iter()
+        .position(|option| !is_as_begun(paper, option))
 }

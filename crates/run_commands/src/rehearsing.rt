@@ -144,7 +144,11 @@ fn compare_accepted<F: Files, W: Watcher>(
 fn longest(filters: &[Filter]) -> u16
     ensures { IsLongest filters.now result }
 {
-    filters.iter().map(|filter| filter.length).max().unwrap_or(0)
+    filters
+        .iter()
+        .map(|filter| filter.length)
+        .max()
+        .unwrap_or(0)
 }
 
 /// A comparison as it is reported, of a code with these declarations.
