@@ -3,7 +3,7 @@ use Rattle.clap.specs.Matches.{found_of}
 use Rattle.clap.specs.Walk.{rows_of}
 use Rattle.command_words.specs.Said.{word_given}
 use Rattle.command_words.proofs.Rows.{no_limit}
-use Rattle.command_words.proofs.words.limit_of.Goals as goal
+use Rattle.command_words.proofs.words.limit_if_said.Goals as goal
 
 none : (n : ℕ) → n ≤ 1000000 → (((1 ≤ n) × (n ≤ 1000000)) → ⊥) → n ≡ 0
 none zero most out = refl
