@@ -191,11 +191,11 @@ pub fn absent_file<'a>(refusal: &CompileFilesRefusal, words: CompileWords<'a>) -
 pub fn of_end(how: &How, saved: bool) -> Option<&'static str> {
     match (how, saved) {
         (How::Spent, true) => Some(
-            "the tables are saved as they were when the budget was spent; --budget N allows more, --only-finished saves none",
+            "the tables are saved as they were then; --budget N allows more, --only-finished saves none",
         ),
         (How::Spent, false) => Some("no file was changed; --budget N allows more"),
         (How::Full(_), true) => Some(
-            "the tables are saved as they were then; --limit N allows more records, up to 1000000, --only-finished saves none",
+            "the tables are saved as they were then; --limit N allows more, up to 1000000, --only-finished saves none",
         ),
         (How::Full(_), false) => Some(
             "no file was changed; --limit N allows more records, up to 1000000",
