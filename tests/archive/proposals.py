@@ -8,16 +8,11 @@ def write(name, content):
         it.write(content)
 
 
-PEOPLE = files.table([("NAME", "C", 8, 0), ("CITY", "C", 8, 0), ("AGE", "N", 3, 0)], [b" Moe     Bergen   41"])
-
-
-def paged(mark):
-    """The table, with this byte for its code page."""
-    return PEOPLE[:29] + bytes([mark]) + PEOPLE[30:]
-
-
+FIELDS = [("NAME", "C", 8, 0), ("CITY", "C", 8, 0), ("AGE", "N", 3, 0)]
+# each table has another record, and the byte of its header that names a code page
 for name, mark in (("CUST", 2), ("DUES", 0), ("FOREIGN", 0xc9), ("ODD", 0x7b), ("PEOPLE", 1)):
-    write(f"{name}.DBF", paged(mark))
+    table = files.table(FIELDS, [b" " + name.ljust(8).encode() + b"Bergen   41"])
+    write(f"{name}.DBF", table[:29] + bytes([mark]) + table[30:])
 write("TOWNS.DBF", files.texts("TOWN", 4, ["Oslo"]))
 write("READY.NDX", files.index("TOWN", 4, [(1, b"Oslo")]))
 

@@ -9,7 +9,7 @@ use Rattle.folder_shapes.specs.declared.line.FolderLine.TheVariants as line
 use Rattle.folder_shapes.specs.declared.mention.Proposal.{Proposal}
 use Rattle.folder_shapes.specs.declared.names.Sort.{Sort}
 use Rattle.folder_shapes.specs.declared.names.Sort.TheVariants as sort
-use Rattle.folder_shapes.specs.Folder.{AddsComments, DeclaresBefore, TakesFolder, is_comment}
+use Rattle.folder_shapes.specs.Folder.{AddsComments, DeclaresBefore, TakesFolder, is_comment_line}
 use Rattle.folder_shapes.specs.Names.{sort_of}
 use Rattle.folder_shapes.specs.Programs.{Named}
 use Rattle.folder_shapes.specs.Proposals.{last_line, proposal_line, proposal_of, proposals_from, proposed_lines}
@@ -26,9 +26,9 @@ adds_nothing x = record {
   only = refl;
 }
 
-both : (a b : List FolderLine) → list_all is_comment a ≡ true → list_all is_comment b ≡ true
-    → list_all is_comment (a ++ b) ≡ true
-both a b h k = list_all-append is_comment a b ∙ rw (h, k) refl
+both : (a b : List FolderLine) → list_all is_comment_line a ≡ true → list_all is_comment_line b ≡ true
+    → list_all is_comment_line (a ++ b) ≡ true
+both a b h k = list_all-append is_comment_line a b ∙ rw (h, k) refl
 
 adds_then : (x y z : State) → AddsComments x y → AddsComments y z → AddsComments x z
 adds_then x y z h k = record {
@@ -75,19 +75,19 @@ programs_add a n [] x y e = along x x y (sym e) (adds_nothing x)
 programs_add a n (name ∷ names) x y (next, step, others) =
     adds_then x next y (step_adds (sort_of name) a n name x next step) (programs_add a (n + 1) names next y others)
 
-one_comment : (n : ℕ) (p : Option Proposal) → list_all is_comment (proposal_line n p) ≡ true
+one_comment : (n : ℕ) (p : Option Proposal) → list_all is_comment_line (proposal_line n p) ≡ true
 one_comment n None = refl
 one_comment n (Some p) = refl
 
-all_comments : (s : State) (n : ℕ) (ms : List Named) → list_all is_comment (proposals_from s n ms) ≡ true
+all_comments : (s : State) (n : ℕ) (ms : List Named) → list_all is_comment_line (proposals_from s n ms) ≡ true
 all_comments s n [] = refl
 all_comments s n (m ∷ ms) =
     both (proposal_line n (proposal_of s m)) (proposals_from s (n + 1) ms) (one_comment n (proposal_of s m))
     (all_comments s (n + 1) ms)
 
-last_by : (b : Bool) (e : List FolderLine) → (if b then line.More ∷ [] else []) ≡ e → list_all is_comment e ≡ true
-last_by true e h = subst (λ (ls : List FolderLine). list_all is_comment ls ≡ true) h refl
-last_by false e h = subst (λ (ls : List FolderLine). list_all is_comment ls ≡ true) h refl
+last_by : (b : Bool) (e : List FolderLine) → (if b then line.More ∷ [] else []) ≡ e → list_all is_comment_line e ≡ true
+last_by true e h = subst (λ (ls : List FolderLine). list_all is_comment_line ls ≡ true) h refl
+last_by false e h = subst (λ (ls : List FolderLine). list_all is_comment_line ls ≡ true) h refl
 
 proposals_add : (s : State) → AddsComments s (with_proposals s)
 proposals_add s = record {

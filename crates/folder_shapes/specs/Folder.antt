@@ -19,13 +19,13 @@ TakesFolder holds names after = (declared : State) × (read : State) × TakesDec
 
 -- ---- what command files add
 
-abbrev pub is_comment : FolderLine → Bool
-is_comment (line.Table n) = false
-is_comment (line.Page n mark) = true
-is_comment (line.Index n) = false
-is_comment (line.Noted n told) = true
-is_comment (line.Proposed n proposed) = true
-is_comment line.More = true
+abbrev pub is_comment_line : FolderLine → Bool
+is_comment_line (line.Table n) = false
+is_comment_line (line.Page n mark) = true
+is_comment_line (line.Index n) = false
+is_comment_line (line.Noted n told) = true
+is_comment_line (line.Proposed n proposed) = true
+is_comment_line line.More = true
 
 -- what is declared stays, and the lines that are added are comments
 pub record AddsComments (before after : State) : Type 0 where
@@ -34,7 +34,7 @@ pub record AddsComments (before after : State) : Type 0 where
   pub indexes : after.indexes ≡ before.indexes
   pub comments : List FolderLine
   pub lines : after.lines ≡ before.lines ++ comments
-  pub only : list_all is_comment comments ≡ true
+  pub only : list_all is_comment_line comments ≡ true
 
 -- the files of tables and indexes declare the same without the command files
 abbrev pub DeclaresBefore : Holds → List (List ℕ) → State → Type 0
