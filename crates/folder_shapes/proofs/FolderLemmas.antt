@@ -12,7 +12,7 @@ use Rattle.folder_shapes.specs.declared.unfit.Unfit.TheVariants.{Noted, Memory}
 use Rattle.folder_shapes.specs.Names.{sort_of}
 use Rattle.folder_shapes.specs.Reading.{IsReadAs, NotRead, NoTableFile, NoFileOfIndex, UnfitIs}
 use Rattle.folder_shapes.specs.Told.{State, WhyNoTable, WhyNoIndex, TakesTable, TakesIndex, TableStep, IndexStep}
-use Rattle.folder_shapes.specs.Told.{TakeTables, TakeIndexes}
+use Rattle.folder_shapes.specs.Told.{TakeTables, TakeIndexes, TakesProgram, ProgramStep, TakePrograms}
 
 pub unfit_map : (P Q : Note → Type 0) (u : Unfit) → ((n : Note) → P n → Q n) → UnfitIs P u → UnfitIs Q u
 unfit_map P Q (Noted n) f h = f n h
@@ -79,13 +79,27 @@ pub table_step_same : (k : Sort) (a b : Holds) (n : ℕ) (name : List ℕ) (x y 
     → TableStep k b n name x y → TableStep k a n name x y
 table_step_same sort.Table a b n name x y s h = takes_table_same a b n name x y s h
 table_step_same sort.Index a b n name x y s h = h
+table_step_same sort.Program a b n name x y s h = h
 table_step_same sort.Other a b n name x y s h = h
 
 pub index_step_same : (k : Sort) (a b : Holds) (n : ℕ) (name : List ℕ) (x y : State) → SameFiles a b
     → IndexStep k b n name x y → IndexStep k a n name x y
 index_step_same sort.Table a b n name x y s h = h
 index_step_same sort.Index a b n name x y s h = takes_index_same a b n name x y s h
+index_step_same sort.Program a b n name x y s h = h
 index_step_same sort.Other a b n name x y s h = h
+
+takes_program_same : (a b : Holds) (n : ℕ) (name : List ℕ) (x y : State) → SameFiles a b → TakesProgram b n name x y
+    → TakesProgram a n name x y
+takes_program_same a b n name x y s (inl (bytes, read, after)) = inl (bytes, read_same a b name bytes s read, after)
+takes_program_same a b n name x y s (inr (told, why, after)) = inr (told, unread_same a b name told s why, after)
+
+program_step_same : (k : Sort) (a b : Holds) (n : ℕ) (name : List ℕ) (x y : State) → SameFiles a b
+    → ProgramStep k b n name x y → ProgramStep k a n name x y
+program_step_same sort.Table a b n name x y s h = h
+program_step_same sort.Index a b n name x y s h = h
+program_step_same sort.Program a b n name x y s h = takes_program_same a b n name x y s h
+program_step_same sort.Other a b n name x y s h = h
 
 -- ---- there are few tables
 
@@ -99,6 +113,7 @@ pub few_after : (k : Sort) (a : Holds) (n : ℕ) (name : List ℕ) (x y : State)
     → TableStep k a n name x y → length y.found ≤ 32
 few_after sort.Table a n name x y few h = few_taken a n name x y few h
 few_after sort.Index a n name x y few h = subst (λ (s : State). length s.found ≤ 32) (sym h) few
+few_after sort.Program a n name x y few h = subst (λ (s : State). length s.found ≤ 32) (sym h) few
 few_after sort.Other a n name x y few h = subst (λ (s : State). length s.found ≤ 32) (sym h) few
 
 index_kept : (a : Holds) (n : ℕ) (name : List ℕ) (x y : State) → length x.found ≤ 32 → TakesIndex a n name x y
@@ -110,6 +125,7 @@ pub few_kept : (k : Sort) (a : Holds) (n : ℕ) (name : List ℕ) (x y : State) 
     → IndexStep k a n name x y → length y.found ≤ 32
 few_kept sort.Table a n name x y few h = subst (λ (s : State). length s.found ≤ 32) (sym h) few
 few_kept sort.Index a n name x y few h = index_kept a n name x y few h
+few_kept sort.Program a n name x y few h = subst (λ (s : State). length s.found ≤ 32) (sym h) few
 few_kept sort.Other a n name x y few h = subst (λ (s : State). length s.found ≤ 32) (sym h) few
 
 -- ---- loops over the names
@@ -136,3 +152,22 @@ goes_indexes a b names i d x y P same below step goes after h =
     let name = (get_or names i d).now in
     goes after (subst (λ (ns : List (Bor (List ℕ))). TakeIndexes a i (texts ns) x after)
     (sym (drop_more names i d below)) (y, index_step_same (sort_of name) a b i name x y same step, h))
+
+pub goes_programs : (a b : Holds) (names : List (Bor (List ℕ))) (i : ℕ) (d : Bor (List ℕ)) (x y : State)
+    (P : State → Type 0) → SameFiles a b → i < length names
+    → ProgramStep (sort_of (get_or names i d).now) b i (get_or names i d).now x y
+    → ((after : State) → TakePrograms a i (texts (drop i names)) x after → P after)
+    → (after : State) → TakePrograms a (i + 1) (texts (drop (i + 1) names)) y after → P after
+goes_programs a b names i d x y P same below step goes after h =
+    let name = (get_or names i d).now in
+    goes after (subst (λ (ns : List (Bor (List ℕ))). TakePrograms a i (texts ns) x after)
+    (sym (drop_more names i d below)) (y, program_step_same (sort_of name) a b i name x y same step, h))
+
+pub programs_same : (a b : Holds) (n : ℕ) (names : List (List ℕ)) (x y : State) → SameFiles a b
+    → TakePrograms b n names x y → TakePrograms a n names x y
+programs_same a b n [] x y s h = h
+programs_same a b n (name ∷ names) x y s (next, step, others) = (
+  next,
+  program_step_same (sort_of name) a b n name x next s step,
+  programs_same a b (n + 1) names next y s others,
+)

@@ -1,6 +1,10 @@
+pub mod AnyLemmas
+pub mod CommentLemmas
 pub mod FieldLemmas
 pub mod FolderLemmas
 pub mod KeyLemmas
 pub mod LegalLemmas
+pub mod MentionLemmas
+pub mod NamedLemmas
 pub mod OwnerLemmas
 pub mod PairLemmas

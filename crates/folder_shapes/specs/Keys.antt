@@ -8,7 +8,7 @@ use Rattle.std.specs.Str.{bytes_eq, str_eq_ignore_ascii_case}
 use Rattle.dbf_file.specs.declared.field.Field.{Field}
 use Rattle.prg_expr.specs.Lexicon.{is_blank_or_tab}
 use Rattle.shape.specs.declared.parts.KeyPart.{KeyPart}
-use Rattle.shape.specs.Keys.{is_key, key_bytes}
+use Rattle.shape.specs.Keys.{is_key, key_bytes, key_text}
 
 -- a key's text in capitals and without blanks
 unfoldable pub plain_text : List ℕ → List ℕ
@@ -67,3 +67,15 @@ key_if fields key_length (Some parts) = fitting_key fields key_length parts
 abbrev pub made_of : List Field → ℕ → List ℕ → Option (List KeyPart)
 made_of fields key_length plain =
     if nat_le (length plain) 100 then key_if fields key_length (said_parts fields (slice_split is_plus plain)) else None
+
+-- rows of the fields can have the key, and it is spelled in at most 100 bytes
+abbrev pub can_be_key : List Field → List KeyPart → Bool
+can_be_key fields parts = is_key fields parts && nat_le (length (key_text fields parts)) 100
+
+abbrev pub is_key_if : List Field → Option (List KeyPart) → Bool
+is_key_if fields None = false
+is_key_if fields (Some parts) = can_be_key fields parts
+
+-- rows of the fields can have a key that is spelled so
+abbrev pub has_key : List Field → List ℕ → Bool
+has_key fields spelled = is_key_if fields (said_parts fields (slice_split is_plus spelled))

@@ -4,3 +4,7 @@ pub mod Owners
 pub mod Reading
 pub mod Told
 pub mod States
+pub mod Pages
+pub mod Programs
+pub mod Proposals
+pub mod Folder

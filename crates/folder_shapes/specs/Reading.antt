@@ -1,5 +1,5 @@
 -- What is read of the files of a folder, and what is noted of those that aren't what their names say.
-use Rattle.std.specs.Prelude.{◌≡◌, ◌≢◌, ◌<◌, ◌≤◌, ◌⊎◌, ℕ, List, [], ◌∷◌, Some, None, length}
+use Rattle.std.specs.Prelude.{◌≡◌, ◌≢◌, ◌≤◌, ◌⊎◌, ℕ, List, [], ◌∷◌, Some, None, length}
 use Rattle.std.specs.Prelude.{IsUtf8, slice_index, slice_range}
 use Rattle.dbf_file.specs.declared.fault.DbfFault.TheVariants as table_fault
 use Rattle.dbf_file.specs.declared.stamp.Stamp.{Stamp}

@@ -23,7 +23,9 @@ use Rattle.folder_shapes.specs.declared.owners.Owner.TheVariants as owner
 use Rattle.folder_shapes.specs.Keys.{plain_text}
 use Rattle.folder_shapes.specs.Names.{stem, sort_of, has_small}
 use Rattle.folder_shapes.specs.Owners.{HasKey, listed_tables, owner_of}
-use Rattle.folder_shapes.specs.Reading.{IsTableFile, NoTableFile, IsFileOfIndex, NoFileOfIndex}
+use Rattle.folder_shapes.specs.Pages.{page_line, page_mark}
+use Rattle.folder_shapes.specs.Programs.{Named, names_of_file, with_all_named}
+use Rattle.folder_shapes.specs.Reading.{IsReadAs, NotRead, IsTableFile, NoTableFile, IsFileOfIndex, NoFileOfIndex}
 
 -- the name of a file without its ending, in capitals
 abbrev pub capital_stem : List ℕ → List ℕ
@@ -34,10 +36,11 @@ pub record State : Type 0 where
   pub tables : List TableShape
   pub found : List FoundTable
   pub indexes : List IndexShape
+  pub mentions : List Named
   pub lines : List FolderLine
 
 abbrev pub nothing_taken : State
-nothing_taken = record { tables = []; found = []; indexes = []; lines = [] }
+nothing_taken = record { tables = []; found = []; indexes = []; mentions = []; lines = [] }
 
 -- something is noted of the file of that number
 abbrev pub with_note : ℕ → Note → State → State
@@ -71,7 +74,8 @@ with_found_table shape t s = record {
   tables = s.tables ++ shape ∷ [];
   found = s.found ++ t ∷ [];
   indexes = s.indexes;
-  lines = s.lines ++ line.Table (length s.tables) ∷ [];
+  mentions = s.mentions;
+  lines = s.lines ++ line.Table (length s.tables) ∷ page_line (length s.tables) (page_mark t);
 }
 
 -- The file holds this table, which may be declared so, or why there is none.
@@ -138,6 +142,7 @@ with_found_index n index stale s = record {
   tables = s.tables;
   found = s.found;
   indexes = s.indexes ++ index ∷ [];
+  mentions = s.mentions;
   lines = s.lines ++ line.Index (length s.indexes) ∷ stale_note n stale;
 }
 
@@ -157,18 +162,38 @@ TakesIndex holds n name before after =
     × (after ≡ with_found_index n index stale before))
     ⊎ ((told : Note) × WhyNoIndex holds before name told × (after ≡ with_note n told before))
 
+-- ---- command files
+
+-- the indexes that a command file of these bytes names, in its place among the folder's names
+abbrev pub with_program : ℕ → List ℕ → State → State
+with_program n bytes s = record s { mentions = with_all_named (names_of_file n bytes) s.mentions }
+
+-- the file of that number is taken as a command file: what its lines name, or why it isn't read
+abbrev pub TakesProgram : Holds → ℕ → List ℕ → State → State → Type 0
+TakesProgram holds n name before after =
+    ((bytes : List ℕ) × IsReadAs holds name bytes × (after ≡ with_program n bytes before))
+    ⊎ ((told : Note) × NotRead holds name told × (after ≡ with_note n told before))
+
 -- ---- the folder
 
--- a table's file is taken as a table, any other file leaves all as it is
+-- a file of one sort is taken, any other leaves all as it is
 abbrev pub TableStep : Sort → Holds → ℕ → List ℕ → State → State → Type 0
 TableStep sort.Table holds n name before after = TakesTable holds n name before after
 TableStep sort.Index holds n name before after = after ≡ before
+TableStep sort.Program holds n name before after = after ≡ before
 TableStep sort.Other holds n name before after = after ≡ before
 
 abbrev pub IndexStep : Sort → Holds → ℕ → List ℕ → State → State → Type 0
 IndexStep sort.Table holds n name before after = after ≡ before
 IndexStep sort.Index holds n name before after = TakesIndex holds n name before after
+IndexStep sort.Program holds n name before after = after ≡ before
 IndexStep sort.Other holds n name before after = after ≡ before
+
+abbrev pub ProgramStep : Sort → Holds → ℕ → List ℕ → State → State → Type 0
+ProgramStep sort.Table holds n name before after = after ≡ before
+ProgramStep sort.Index holds n name before after = after ≡ before
+ProgramStep sort.Program holds n name before after = TakesProgram holds n name before after
+ProgramStep sort.Other holds n name before after = after ≡ before
 
 -- each name in its turn, the first of them having this number
 abbrev pub TakeTables : Holds → ℕ → List (List ℕ) → State → State → Type 0
@@ -181,7 +206,12 @@ TakeIndexes holds n [] before after = before ≡ after
 TakeIndexes holds n (name ∷ names) before after = (next : State) × IndexStep (sort_of name) holds n name before next
     × TakeIndexes holds (n + 1) names next after
 
--- First the tables, each in its turn, and then the indexes.
-abbrev pub TakesFolder : Holds → List (List ℕ) → State → Type 0
-TakesFolder holds names after =
+abbrev pub TakePrograms : Holds → ℕ → List (List ℕ) → State → State → Type 0
+TakePrograms holds n [] before after = before ≡ after
+TakePrograms holds n (name ∷ names) before after = (next : State) × ProgramStep (sort_of name) holds n name before next
+    × TakePrograms holds (n + 1) names next after
+
+-- first the tables, each in its turn, and then the indexes
+abbrev pub TakesDeclared : Holds → List (List ℕ) → State → Type 0
+TakesDeclared holds names after =
     (tables : State) × TakeTables holds 0 names nothing_taken tables × TakeIndexes holds 0 names tables after

@@ -1,6 +1,6 @@
 //! The files of a folder, one after the other.
 
-ghost use Rattle.std.specs.Prelude.{◌≡◌, ◌≤◌, true, length, map, IfOk, IfErr, OnOk};
+ghost use Rattle.std.specs.Prelude.{◌≡◌, ◌≤◌, true, length, map, All, IfOk, IfErr, OnOk};
 ghost use Rattle.file_access.specs.Holding.{SameFiles};
 ghost use Rattle.folder_shapes.specs.declared.note.Note.{Note as TheNote};
 ghost use Rattle.folder_shapes.specs.declared.unfit.Unfit.TheVariants.{Noted};
@@ -8,7 +8,10 @@ ghost use Rattle.folder_shapes.specs.Reading.{UnfitIs, IsTableFile, NoTableFile,
 ghost use Rattle.shape.specs.Whole.{is_shape};
 ghost use Rattle.folder_shapes.specs.States.{taken_state, declared_shape};
 ghost use Rattle.folder_shapes.specs.Told.{HasTable, HasIndex, WhyNoTable, WhyNoIndex, TakesTable, TakesIndex};
-ghost use Rattle.folder_shapes.specs.Told.{TakesFolder};
+ghost use Rattle.folder_shapes.specs.Folder.{DeclaresBefore, IsNamed, TakesFolder};
+ghost use Rattle.folder_shapes.specs.Programs.{named_in};
+ghost use Rattle.folder_shapes.specs.Proposals.{with_proposals};
+ghost use Rattle.folder_shapes.specs.Told.{TakesDeclared, TakesProgram, ProgramStep, TakePrograms};
 ghost use Rattle.folder_shapes.specs.Told.{nothing_taken as nothing_told, with_note, with_found_table};
 ghost use Rattle.folder_shapes.specs.Told.{with_found_index};
 ghost use Rattle.folder_shapes.specs.Told.{TableStep, IndexStep, TakeTables};
@@ -18,8 +21,11 @@ use crate::declared::FolderDeclared;
 use crate::found::FoundTable;
 use crate::indexes::index_shape;
 use crate::line::FolderLine;
+use crate::mentions::take_lines;
 use crate::names::{Sort, sort_of};
 use crate::note::Note;
+use crate::pages::mark_of;
+use crate::proposals::proposed_lines;
 use crate::reading::{index_in, read_bytes, table_in};
 use crate::tables::table_shape;
 use crate::unfit::Unfit;
@@ -61,6 +67,7 @@ impl FolderDeclared {
             tables: Vec::new(alloc),
             found: Vec::new(alloc),
             indexes: Vec::new(alloc),
+            mentions: Vec::new(alloc),
             lines: Vec::new(alloc),
         }
     }
@@ -100,7 +107,12 @@ impl FolderDeclared {
     fn add_table(&mut self, shape: TableShape, found: FoundTable) -> Result<(), AllocError>
         ensures { OnOk result (taken_state self.new ≡ with_found_table shape found (taken_state self.old)) }
     {
-        self.lines.push(FolderLine::Table(self.tables.len()))?;
+        let number = self.tables.len();
+        let mark = mark_of(&found);
+        self.lines.push(FolderLine::Table(number))?;
+        if mark != 0 {
+            self.lines.push(FolderLine::Page(number, mark))?;
+        }
         self.tables.push(shape)?;
         self.found.push(found)?;
         Ok(())
@@ -193,7 +205,7 @@ impl FolderDeclared {
     {
         match sort_of(name) {
             Sort::Table => self.take_table(alloc, files, file, name),
-            Sort::Index | Sort::Other => Ok(()),
+            Sort::Index | Sort::Program | Sort::Other => Ok(()),
         }
     }
 
@@ -212,8 +224,53 @@ impl FolderDeclared {
     {
         match sort_of(name) {
             Sort::Index => self.take_index(alloc, files, file, name),
-            Sort::Table | Sort::Other => Ok(()),
+            Sort::Table | Sort::Program | Sort::Other => Ok(()),
         }
+    }
+
+    /// Takes the command file of that number.
+    fn take_program<F: Files>(
+        &mut self,
+        alloc: Global,
+        files: &mut F,
+        file: usize,
+        name: &[u8],
+    ) -> Result<(), AllocError>
+        ensures taken { OnOk result (TakesProgram (F.holds files.old) file name.now (taken_state self.old)
+            (taken_state self.new)) }
+        ensures kept { SameFiles (F.holds files.old) (F.holds files.new) }
+    {
+        match read_bytes(alloc, files, name) {
+            Ok(bytes) => take_lines(alloc, &mut self.mentions, file, bytes.as_slice()),
+            Err(unfit) => self.note(file, unfit),
+        }
+    }
+
+    /// Takes the file of that number if its name is a command file's.
+    fn program_step<F: Files>(
+        &mut self,
+        alloc: Global,
+        files: &mut F,
+        file: usize,
+        name: &[u8],
+    ) -> Result<(), AllocError>
+        ensures taken { OnOk result (ProgramStep (sort_of_name name.now) (F.holds files.old) file name.now
+            (taken_state self.old) (taken_state self.new)) }
+        ensures kept { SameFiles (F.holds files.old) (F.holds files.new) }
+    {
+        match sort_of(name) {
+            Sort::Program => self.take_program(alloc, files, file, name),
+            Sort::Table | Sort::Index | Sort::Other => Ok(()),
+        }
+    }
+
+    /// Adds what is proposed for the indexes that the command files name.
+    fn propose(&mut self, alloc: Global) -> Result<(), AllocError>
+        ensures { OnOk result (taken_state self.new ≡ with_proposals (taken_state self.old)) }
+    {
+        let mut proposed = proposed_lines(alloc, self)?;
+        self.lines.append(&mut proposed)?;
+        Ok(())
     }
 }
 
@@ -241,7 +298,7 @@ fn take_all<F: Files>(
     files: &mut F,
     names: &[&[u8]],
 ) -> Result<FolderDeclared, AllocError>
-    ensures taken { IfOk result (λ declared. TakesFolder (F.holds files.old) (map (λ name. name.now) names.now)
+    ensures taken { IfOk result (λ declared. TakesDeclared (F.holds files.old) (map (λ name. name.now) names.now)
         (taken_state declared)) }
     ensures kept { SameFiles (F.holds files.old) (F.holds files.new) }
 {
@@ -252,19 +309,60 @@ fn take_all<F: Files>(
     Ok(declared)
 }
 
-/// What the tables and indexes of a folder declare, in the order of its names, the tables first.
+/// Takes the command files of a folder.
+fn take_programs<F: Files>(
+    alloc: Global,
+    files: &mut F,
+    names: &[&[u8]],
+    declared: &mut FolderDeclared,
+) -> Result<(), AllocError>
+    ensures taken { OnOk result (TakePrograms (F.holds files.old) 0 (map (λ name. name.now) names.now)
+        (taken_state declared.old) (taken_state declared.new)) }
+    ensures kept { SameFiles (F.holds files.old) (F.holds files.new) }
+{
+    for (file, name) in names.iter().enumerate() {
+        declared.program_step(alloc, files, file, name)?;
+    }
+    Ok(())
+}
+
+/// Takes the tables, the indexes and the command files of a folder, and proposes what the last ones name.
+fn take_folder<F: Files>(
+    alloc: Global,
+    files: &mut F,
+    names: &[&[u8]],
+) -> Result<FolderDeclared, AllocError>
+    ensures taken { IfOk result (λ declared. TakesFolder (F.holds files.old) (map (λ name. name.now) names.now)
+        (taken_state declared)) }
+    ensures kept { SameFiles (F.holds files.old) (F.holds files.new) }
+{
+    let mut declared = take_all(alloc, files, names)?;
+    take_programs(alloc, files, names, &mut declared)?;
+    declared.propose(alloc)?;
+    Ok(declared)
+}
+
+/// What the tables and indexes of a folder declare, in the order of its names, the tables first, and what is proposed
+/// for the indexes that its command files name.
 pub fn declare<F: Files>(
     alloc: Global,
     files: &mut F,
     names: &[&[u8]],
 ) -> Result<FolderDeclared, AllocError>
-    // Each file of a table is declared, or noted with a reason that is true of it, and then each file of an index.
+    // Each file of a table is declared, or noted with a reason that is true of it, and then each file of an index. Then
+    // the command files are read, and what they name is proposed.
     ensures taken { IfOk result (λ declared. TakesFolder (F.holds files.old) (map (λ name. name.now) names.now)
         (taken_state declared)) }
+    // Without the command files the same is declared: they add comments only.
+    ensures comments { IfOk result (λ declared. DeclaresBefore (F.holds files.old) (map (λ name. name.now) names.now)
+        (taken_state declared)) }
+    // Each index that is proposed is named by a line of a command file.
+    ensures named { IfOk result (λ declared. All (IsNamed (F.holds files.old) (map (λ name. name.now) names.now))
+        (map named_in declared.mentions.items)) }
     // It is a shape that a code can have.
     ensures legal { IfOk result (λ declared. is_shape (declared_shape declared) ≡ true) }
     ensures kept { SameFiles (F.holds files.old) (F.holds files.new) }
 {
-    let declared = take_all(alloc, files, names)?;
+    let declared = take_folder(alloc, files, names)?;
     Ok(declared)
 }

@@ -10,6 +10,9 @@ use dbf_file::Field;
 use shape::{KeyPart, KeyParts};
 use std::alloc::{AllocError, Global};
 
+/// The most bytes in which a key is spelled.
+const MOST_SPELLED: usize = 100;
+
 fn is_blank(byte: u8) -> bool
     ensures { result ≡ is_blank_or_tab byte }
 {
@@ -147,5 +150,28 @@ pub fn made_of(
     match parts_in(alloc, fields, plain)? {
         Some(parts) => Ok(key_of(fields, parts.as_slice(), key_length)),
         None => Ok(None),
+    }
+}
+
+/// Whether parts make a key that rows of the fields can have.
+#[tactic(auto, unfolding(shape::specs::Keys::is_key))]
+fn is_key_of(fields: &[Field], parts: &[KeyPart]) -> bool
+    ensures { result ≡ spec.can_be_key fields.now parts.now }
+{
+    if 8 < parts.len() {
+        return false;
+    }
+    let key = KeyParts::new(parts);
+    key.fits(fields) && key.text(fields).len() <= MOST_SPELLED
+}
+
+/// Whether rows of the fields can have a key that is spelled so.
+pub fn has_key(alloc: Global, fields: &[Field], spelled: &[u8]) -> Result<bool, AllocError>
+    requires { length fields.now ≤ 128 }
+    ensures { IfOk result (λ answer. answer ≡ spec.has_key fields.now spelled.now) }
+{
+    match parts_in(alloc, fields, spelled)? {
+        Some(parts) => Ok(is_key_of(fields, parts.as_slice())),
+        None => Ok(false),
     }
 }

@@ -12,6 +12,7 @@ use shape::Name;
 pub enum Sort {
     Table,
     Index,
+    Program,
     Other,
 }
 
@@ -39,6 +40,9 @@ pub fn sort_of(name: &[u8]) -> Sort
     }
     if ending(name).eq_ignore_ascii_case(b".NDX") {
         return Sort::Index;
+    }
+    if ending(name).eq_ignore_ascii_case(b".PRG") {
+        return Sort::Program;
     }
     Sort::Other
 }

@@ -2,7 +2,9 @@
 
 use crate::declared::FolderDeclared;
 use crate::line::FolderLine;
+use crate::mention::{Mention, Proposal};
 use crate::note::Note;
+use crate::pages::{option_of, page_of};
 use std::fmt::{self, Display, Formatter, Write};
 
 /// A line of the declaration file of a folder whose files have these names.
@@ -100,15 +102,147 @@ fn put_note<W: Write>(
     }
 }
 
+/// A command as it is written, without the blanks around it; a tab is a blank.
+#[derive(Clone, Copy)]
+struct Command<'a>(&'a [u8]);
+
+impl Display for Command<'_> {
+    fn fmt<W: Write>(&self, f: &mut Formatter<W>) -> fmt::Result {
+        for byte in self.0.trim_ascii() {
+            f.write_char(match byte {
+                b' '..=b'~' => char::from(*byte),
+                b'\t' => ' ',
+                _ => '?',
+            })?;
+        }
+        Ok(())
+    }
+}
+
+/// The code page that the header of a table names.
+fn put_page<W: Write>(
+    f: &mut Formatter<W>,
+    declared: &FolderDeclared,
+    t: usize,
+    mark: u8,
+) -> fmt::Result {
+    let Some(table) = declared.tables.get(t) else {
+        return Ok(());
+    };
+    let name = Shown(table.name.as_slice());
+    match page_of(mark) {
+        Some(page) => write!(f, "* {name}.DBF: code page {page} (byte 29 is {mark:02X})")?,
+        None => write!(f, "* {name}.DBF: unknown code page (byte 29 is {mark:02X})")?,
+    }
+    match option_of(mark) {
+        Some(option) => write!(f, "; {option} reads it"),
+        None => Ok(()),
+    }
+}
+
+/// The index that a command file names and its table, if that is known.
+fn put_named<W: Write>(f: &mut Formatter<W>, mention: &Mention) -> fmt::Result {
+    let index = Shown(mention.index.as_slice());
+    match &mention.table {
+        Some(table) => {
+            let table = Shown(table.as_slice());
+            write!(f, "INDEX {index} ON {table} KEY ")
+        }
+        None => write!(f, "INDEX {index} ON ? KEY "),
+    }
+}
+
+/// The key of an index, or a question mark if no command file gives it one.
+fn put_key<W: Write>(f: &mut Formatter<W>, mention: &Mention) -> fmt::Result {
+    match &mention.key {
+        Some(key) => {
+            let spelled = Shown(key.spelled.as_slice());
+            write!(f, "{spelled}")
+        }
+        None => f.write_str("?"),
+    }
+}
+
+/// A command that makes an index.
+fn put_command<W: Write>(f: &mut Formatter<W>, mention: &Mention) -> fmt::Result {
+    match &mention.key {
+        Some(key) => {
+            let command = Command(key.command.as_slice());
+            write!(f, "{command}")
+        }
+        None => Ok(()),
+    }
+}
+
+/// What is proposed for an index that the file of that name names.
+fn put_proposal<W: Write>(
+    f: &mut Formatter<W>,
+    name: &[u8],
+    mention: &Mention,
+    proposal: Proposal,
+) -> fmt::Result {
+    let shown = Shown(name);
+    write!(f, "* {shown} line {}: ", mention.line)?;
+    match proposal {
+        Proposal::Declare => {
+            put_named(f, mention)?;
+            put_key(f, mention)
+        }
+        Proposal::NoKey => {
+            put_named(f, mention)?;
+            f.write_str("?: no INDEX ON here has its key")
+        }
+        Proposal::NoTable => {
+            put_command(f, mention)?;
+            f.write_str(": the lines before it don't show which table is in use")
+        }
+        Proposal::OtherTable => {
+            put_command(f, mention)?;
+            f.write_str(": its table isn't declared here")
+        }
+        Proposal::OtherKey => {
+            put_command(f, mention)?;
+            f.write_str(": a key is text fields of the table, plain or in UPPER(), joined by +")
+        }
+        Proposal::OtherName => {
+            put_command(f, mention)?;
+            f.write_str(": no name of up to eight capitals, digits and underscores, a letter first")
+        }
+    }
+}
+
+impl LineTold<'_, '_> {
+    /// What is proposed for the mention of that number.
+    fn put_proposed<W: Write>(
+        &self,
+        f: &mut Formatter<W>,
+        number: usize,
+        proposal: Proposal,
+    ) -> fmt::Result {
+        let Some(mention) = self.declared.mentions.get(number) else {
+            return Ok(());
+        };
+        match self.names.get(mention.file) {
+            Some(name) => put_proposal(f, name, mention, proposal),
+            None => Ok(()),
+        }
+    }
+}
+
 impl Display for LineTold<'_, '_> {
     fn fmt<W: Write>(&self, f: &mut Formatter<W>) -> fmt::Result {
         match self.line {
             FolderLine::Table(t) => put_table(f, self.declared, t),
+            FolderLine::Page(t, mark) => put_page(f, self.declared, t, mark),
             FolderLine::Index(i) => put_index(f, self.declared, i),
             FolderLine::Noted(file, note) => match self.names.get(file) {
                 Some(name) => put_note(f, self.names, name, note),
                 None => Ok(()),
             },
+            FolderLine::Proposed(number, proposal) => self.put_proposed(f, number, proposal),
+            FolderLine::More => f.write_str(
+                "* of the indexes that command files name, the first 256 are listed",
+            ),
         }
     }
 }

@@ -99,6 +99,14 @@ pub fn of_command(kind: CompileFaultKind) -> &'static str
     }
 }
 
+/// What to do about a command that names a table and an index, if one of its names isn't declared.
+pub(crate) fn of_undeclared_index() -> &'static str
+    ensures { is_sentence result.now ≡ true }
+{
+    "the table, a field of the key or the index isn't declared; a line INDEX name ON table KEY key of the declaration \
+    file declares an index, and dbrun declare proposes such lines"
+}
+
 /// What to do about a faulty line of a declaration file, in one sentence without its point.
 pub fn of_declaration(fault: LineFault) -> &'static str
     ensures { is_sentence result.now ≡ true }
@@ -144,7 +152,10 @@ impl LeftOut {
         ensures { is_sentence result.now ≡ true }
     {
         match self {
-            LeftOut::Locate => "LOCATE and CONTINUE are left out; use SCAN FOR .. EXIT .. ENDSCAN",
+            LeftOut::Locate => {
+                "LOCATE and CONTINUE are left out; use SCAN FOR .. EXIT .. ENDSCAN, and after it test .NOT. EOF() \
+                instead of FOUND(), which is false there"
+            }
             LeftOut::Find => "FIND is left out; use SEEK with the text in quotes",
             LeftOut::Sums => {
                 "COUNT, SUM and AVERAGE are left out; set a variable to 0, and add to it in SCAN .. ENDSCAN"
@@ -168,8 +179,10 @@ impl LeftOut {
             }
             LeftOut::Input => "INPUT is left out; use ACCEPT and VAL(), or @ .. GET and READ",
             LeftOut::Texts => "TEXT is left out; print each line by ?",
-            LeftOut::Printer =>
-                "printers and other outputs are left out; all rows go to standard output",
+            LeftOut::Printer => {
+                "printers and other outputs are left out; all rows go to standard output; the screen has 25 rows of 80 \
+                columns, CLEAR ends a page, and @ outside the screen prints nothing, without a message"
+            }
             LeftOut::Others => "other programs and files are left out; take the line away",
             LeftOut::Public => {
                 "PUBLIC is left out; set the variable before DO, and what is called sees it"

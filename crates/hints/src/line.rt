@@ -6,7 +6,7 @@ ghost use Rattle.prg_expr.specs.Word.{word_of, words as words_of};
 ghost use Rattle.hints.specs.LeftOut as spec;
 ghost use Rattle.hints.specs.Sentences.{is_sentence};
 
-use crate::kinds::{of_command, of_kind};
+use crate::kinds::{of_command, of_kind, of_undeclared_index};
 use crate::left_out::{LeftOut, by_first, by_two, by_word, of_answer, of_clause, of_function};
 use prg_code::CompileFaultKind;
 use prg_expr::{BinaryOperator, ParseFaultKind, Token, is_word, words};
@@ -202,12 +202,35 @@ fn is_selection(alloc: Global, line: &[u8]) -> bool {
     }
 }
 
+/// Whether one of these words is INDEX.
+fn has_index_word(words: &[Token<'_>]) -> bool {
+    match words {
+        [Token::Name(word), others @ ..] => is_word(*word, b"INDEX") || has_index_word(others),
+        [_, others @ ..] => has_index_word(others),
+        [] => false,
+    }
+}
+
+/// Whether a line is USE with indexes, or INDEX ON.
+fn is_of_indexes(alloc: Global, line: &[u8]) -> bool {
+    let Ok(read) = words(alloc, line) else {
+        return false;
+    };
+    match read.words.as_slice() {
+        [Token::Name(first), others @ ..] => {
+            is_word(*first, b"INDEX") || (is_word(*first, b"USE") && has_index_word(others))
+        }
+        _ => false,
+    }
+}
+
 /// What to do about a line of a command file whose command can't be compiled, in one sentence without its point.
 pub fn of_compiled_line(alloc: Global, kind: CompileFaultKind, line: &[u8]) -> &'static str
     ensures { is_sentence result.now ≡ true }
 {
     match kind {
         CompileFaultKind::Name if is_selection(alloc, line) => LeftOut::SelectZero.instead(),
+        CompileFaultKind::Name if is_of_indexes(alloc, line) => of_undeclared_index(),
         _ => of_command(kind),
     }
 }
