@@ -1,16 +1,11 @@
 //! IF and DO CASE.
 
-ghost use Rattle.std.specs.Prelude.{◌≡◌, IfOk, IfSome};
-ghost use Rattle.prg_code.specs.declared.work.Output.{Output as AnyOutput};
-ghost use Rattle.prg_code.specs.Growth.{OutputGrows};
-ghost use Rattle.prg_control.specs.Begun.{IsBodyBehind};
-
 use crate::body::{Behind, Body};
 use crate::steps::{LeapLabels, Span, jump, new_label, place, put_condition};
 use prg_code::CompileRefusal;
 use prg_expr::Expr;
 use prg_parser::{Branch, Case, Command};
-use prg_writer::{Source, Writer};
+use prg_writer::Writer;
 
 /// An IF or a DO CASE of which a part is written.
 #[derive(Clone, Copy)]
@@ -52,7 +47,6 @@ impl Choice<'_> {
 
 /// Begins an IF.
 pub fn open_if<'a>(
-    s: &Source,
     w: &mut Writer,
     leaps: Option<LeapLabels>,
     span: Span,
@@ -60,8 +54,6 @@ pub fn open_if<'a>(
     then: &'a [Command],
     otherwise: &'a Option<Branch>,
 ) -> Result<Option<Body<'a>>, CompileRefusal>
-    ensures grown { OutputGrows w.old.out w.new.out }
-    ensures behind { (base : AnyOutput) → IfOk result (λ body. IfSome body (IsBodyBehind base)) }
 {
     let Span { first, end } = span;
     let out = match otherwise {
@@ -80,20 +72,17 @@ pub fn open_if<'a>(
         condition,
         body: then,
     };
-    Ok(Some(open_part(s, w, choice, part)?))
+    Ok(Some(open_part(w, choice, part)?))
 }
 
 /// Begins a DO CASE that ends in this line. None where it has no part.
 pub fn open_do_case<'a>(
-    s: &Source,
     w: &mut Writer,
     leaps: Option<LeapLabels>,
     cases: &'a [Case],
     otherwise: &'a Option<Branch>,
     end: usize,
 ) -> Result<Option<Body<'a>>, CompileRefusal>
-    ensures grown { OutputGrows w.old.out w.new.out }
-    ensures behind { (base : AnyOutput) → IfOk result (λ body. IfSome body (IsBodyBehind base)) }
 {
     let out = new_label(w, end)?;
     let choice = Choice {
@@ -103,21 +92,18 @@ pub fn open_do_case<'a>(
         out: Some(out),
         leaps,
     };
-    next_part(s, w, choice)
+    next_part(w, choice)
 }
 
 /// Puts a part's condition.
 fn open_part<'a>(
-    s: &Source,
     w: &mut Writer,
     choice: Choice<'a>,
     part: Part<'a>,
 ) -> Result<Body<'a>, CompileRefusal>
-    ensures grown { OutputGrows w.old.out w.new.out }
-    ensures behind { (base : AnyOutput) → IfOk result (IsBodyBehind base) }
 {
     let other = new_label(w, part.line)?;
-    put_condition(s, w, part.line, part.condition, other)?;
+    put_condition(w, part.line, part.condition, other)?;
     Ok(Body {
         list: part.body,
         end: Some(choice.next_line()),
@@ -128,12 +114,9 @@ fn open_part<'a>(
 
 /// Begins the next part of the choice. Behind the last one, the choice ends.
 fn next_part<'a>(
-    s: &Source,
     w: &mut Writer,
     choice: Choice<'a>,
 ) -> Result<Option<Body<'a>>, CompileRefusal>
-    ensures grown { OutputGrows w.old.out w.new.out }
-    ensures behind { (base : AnyOutput) → IfOk result (λ body. IfSome body (IsBodyBehind base)) }
 {
     if let Some((case, cases)) = choice.cases.split_first() {
         let part = Part {
@@ -141,7 +124,7 @@ fn next_part<'a>(
             condition: &case.condition,
             body: &case.body,
         };
-        return Ok(Some(open_part(s, w, Choice { cases, ..choice }, part)?));
+        return Ok(Some(open_part(w, Choice { cases, ..choice }, part)?));
     }
     let Some(branch) = choice.otherwise else {
         end_choice(w, choice)?;
@@ -157,13 +140,10 @@ fn next_part<'a>(
 
 /// Ends a part with a condition, and begins the next one.
 pub fn end_part<'a>(
-    s: &Source,
     w: &mut Writer,
     choice: Choice<'a>,
     other: usize,
 ) -> Result<Option<Body<'a>>, CompileRefusal>
-    ensures grown { OutputGrows w.old.out w.new.out }
-    ensures behind { (base : AnyOutput) → IfOk result (λ body. IfSome body (IsBodyBehind base)) }
 {
     if let Some(out) = choice.out
         && !choice.is_over()
@@ -171,12 +151,11 @@ pub fn end_part<'a>(
         jump(w, choice.end, out)?;
     }
     place(w, choice.end, other)?;
-    next_part(s, w, choice)
+    next_part(w, choice)
 }
 
 /// Ends the choice.
 pub fn end_choice(w: &mut Writer, choice: Choice) -> Result<(), CompileRefusal>
-    ensures same { w.new.out ≡ w.old.out }
 {
     match choice.out {
         Some(out) => place(w, choice.end, out),

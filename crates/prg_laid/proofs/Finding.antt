@@ -6,7 +6,7 @@ use Rattle.prg_line.specs.Act.{Act}
 use Rattle.prg_parser.specs.Commands.{Cmd, Single}
 use Rattle.prg_laid.specs.Choices.{Finishes}
 use Rattle.prg_laid.specs.Commands.{Laid, ends, ends_run}
-use Rattle.prg_laid.specs.Layout.{Laying}
+use Rattle.prg_commands.specs.Layout.{Laying}
 use Rattle.prg_laid.specs.declared.way.Leaps.{Leaps}
 use Rattle.prg_laid.specs.declared.way.Way.{Way}
 
