@@ -1,11 +1,12 @@
 //! Commands on work areas.
 
-ghost use Rattle.std.specs.Prelude.{◌≡◌, IfOk, IfSome, OnOk, map, option_map, position};
+ghost use Rattle.std.specs.Prelude.{◌≡◌, IfOk, IfSome, OnOk, Some, map, option_map, position};
 ghost use Rattle.std.specs.List.{AllZip};
 ghost use Rattle.std.specs.Str.{bytes_eq};
 ghost use Rattle.prg_expr.specs.Tree.{tree_of};
 ghost use Rattle.prg_commands.specs.Acts as acts;
 ghost use Rattle.prg_line.specs.Act.{area_said, letters_of};
+ghost use Rattle.prg_values.specs.Readings.{table_named as table_named_in};
 ghost use Rattle.shape.specs.Lists.{is_index_of};
 
 use crate::sink::Sink;
@@ -88,34 +89,49 @@ fn list_of(shape: &Shape, table: u16, names: &[Name]) -> Result<ListedIndexes, C
     Ok(indexes)
 }
 
+/// Whether another work area than the selected one holds the table, or may hold it.
+fn is_held(scope: &Scope, table: u16) -> bool {
+    let desk = &scope.state.desk;
+    others_hold(table, desk.selected, desk.areas.as_slice())
+}
+
+/// The number of the declared table of this name.
+fn table_of<S: Sink>(sink: &S, name: &Name) -> Result<u16, CompileError>
+    ensures { S.judges → IfOk result
+        (λ table. table_named_in (S.laying sink.now).declared.shape name.now.items ≡ Some table) }
+{
+    let scope = sink.scope()?;
+    match table_named(scope.shape, name.as_slice()) {
+        Some(table) => Ok(table),
+        None => Err(CompileError::Fault(CompileFaultKind::Name)),
+    }
+}
+
+/// The number of the list of these indexes of the table, which is to be opened. OpenTwice where another work area holds
+/// it or may hold it.
+#[tactic(auto, using(crate::proofs::Indexes::is_list))]
+fn list_to_open<S: Sink>(sink: &mut S, table: u16, names: &[Name]) -> Result<u16, CompileError>
+    ensures number { S.judges → IfOk result (acts.IsList (S.laying sink.old) (map letters_of names.now)) }
+    ensures place { S.judges → S.place sink.new ≡ S.place sink.old }
+    ensures same { S.laying sink.new ≡ S.laying sink.old }
+{
+    let scope = sink.scope()?;
+    let list = list_of(scope.shape, table, names)?;
+    if is_held(&scope, table) {
+        return Err(CompileError::Fault(CompileFaultKind::OpenTwice));
+    }
+    sink.list(list)
+}
+
 /// `USE table [INDEX indexes]`.
 pub fn open_table<S: Sink>(sink: &mut S, name: &Name, indexes: &[Name]) -> Result<(), CompileError>
     ensures laid { S.judges → OnOk result (acts.Opened (S.laying sink.old) (S.place sink.old) name.now.items
         (map letters_of indexes.now) (S.place sink.new)) }
     ensures same { S.laying sink.new ≡ S.laying sink.old }
 {
-    let scope = sink.scope()?;
-    let Some(table) = table_named(scope.shape, name.as_slice()) else {
-        return Err(CompileError::Fault(CompileFaultKind::Name));
-    };
-    let list = list_of(scope.shape, table, indexes)?;
-    if is_held(&scope, table) {
-        return Err(CompileError::Fault(CompileFaultKind::OpenTwice));
-    }
-    let list = sink.list(list)?;
-    put_area(
-        sink,
-        AreaInstr::Open {
-            table,
-            list: u32::from(list),
-        },
-    )
-}
-
-/// Whether another work area than the selected one holds the table, or may hold it.
-fn is_held(scope: &Scope, table: u16) -> bool {
-    let desk = &scope.state.desk;
-    others_hold(table, desk.selected, desk.areas.as_slice())
+    let table = table_of(sink, name)?;
+    let list = u32::from(list_to_open(sink, table, indexes)?);
+    put_area(sink, AreaInstr::Open { table, list })
 }
 
 fn area_named<S: Sink>(sink: &S, name: &Name) -> Result<u8, CompileError>

@@ -97,13 +97,23 @@ fn index_to_make<S: Sink>(sink: &S, key: &Expr, name: &Name) -> Result<u8, Compi
     Ok(number)
 }
 
+/// The number of the list of the index of this name alone.
+#[tactic(auto, using(crate::proofs::Indexes::is_list))]
+fn list_to_make<S: Sink>(sink: &mut S, key: &Expr, name: &Name) -> Result<u16, CompileError>
+    ensures number { S.judges → IfOk result (acts.IsList (S.laying sink.old) (name.now.items ∷ [])) }
+    ensures place { S.judges → S.place sink.new ≡ S.place sink.old }
+    ensures same { S.laying sink.new ≡ S.laying sink.old }
+{
+    let number = index_to_make(sink, key, name)?;
+    sink.list(list_of_one(number))
+}
+
 /// `INDEX ON key TO index`.
 pub fn index_on<S: Sink>(sink: &mut S, key: &Expr, name: &Name) -> Result<(), CompileError>
     ensures laid { S.judges → OnOk result (acts.Indexed (S.laying sink.old) (S.place sink.old)
         (name.now.items ∷ []) (S.place sink.new)) }
     ensures same { S.laying sink.new ≡ S.laying sink.old }
 {
-    let number = index_to_make(sink, key, name)?;
-    let list = sink.list(list_of_one(number))?;
+    let list = list_to_make(sink, key, name)?;
     sink.put(Instr::Records(RecordInstr::Index(list)))
 }

@@ -99,7 +99,12 @@ fn put_name<S: Sink>(sink: &mut S, name: &Name) -> Result<Reading, CompileError>
 }
 
 /// `@ row,column GET variable`.
-pub fn get<S: Sink>(sink: &mut S, row: &Expr, column: &Expr, variable: &Name) -> Result<(), CompileError>
+pub fn get<S: Sink>(
+    sink: &mut S,
+    row: &Expr,
+    column: &Expr,
+    variable: &Name,
+) -> Result<(), CompileError>
     ensures laid { S.judges → OnOk result (acts.Got (S.laying sink.old) (S.place sink.old) (tree_of row.now)
         (tree_of column.now) variable.now.items (S.place sink.new)) }
     ensures same { S.laying sink.new ≡ S.laying sink.old }
@@ -197,7 +202,11 @@ fn show_prompt<S: Sink>(sink: &mut S, prompt: &Option<Expr>) -> Result<(), Compi
 }
 
 /// `ACCEPT [prompt] TO variable`.
-pub fn accept<S: Sink>(sink: &mut S, prompt: &Option<Expr>, variable: &Name) -> Result<(), CompileError>
+pub fn accept<S: Sink>(
+    sink: &mut S,
+    prompt: &Option<Expr>,
+    variable: &Name,
+) -> Result<(), CompileError>
     ensures laid { S.judges → OnOk result (acts.AcceptLaid (S.laying sink.old) (S.place sink.old)
         (option_map tree_of prompt.now) variable.now.items (S.place sink.new)) }
     ensures same { S.laying sink.new ≡ S.laying sink.old }

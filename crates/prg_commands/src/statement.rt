@@ -58,7 +58,11 @@ pub fn turn_of<'a>(statement: &'a Statement) -> Option<Turn<'a>>
 ///
 /// The command's first fault. Faults of its expressions come first, in the order of their code. Faults of names come
 /// next, and then ClosedArea, NoOrder, OpenTwice, Index, Filter and Limit. The other error is want of memory.
-pub fn put_statement<S: Sink>(sink: &mut S, gets: &[Get], statement: &Statement) -> Result<(), CompileError>
+pub fn put_statement<S: Sink>(
+    sink: &mut S,
+    gets: &[Get],
+    statement: &Statement,
+) -> Result<(), CompileError>
     // In a finished code the command's code is found.
     ensures laid { S.judges → OnOk result (acts.ActLaid (S.laying sink.old) (acts.names_of gets.now)
         (S.place sink.old) (act_of statement.now) (S.place sink.new)) }
@@ -128,7 +132,11 @@ fn get_in(variable: &Name, line: usize) -> Get
 }
 
 /// The GETs that wait for their READ after the command in this line.
-pub fn wait_for_read(gets: &mut Vec<Get>, line: usize, statement: &Statement) -> Result<(), AllocError>
+pub fn wait_for_read(
+    gets: &mut Vec<Get>,
+    line: usize,
+    statement: &Statement,
+) -> Result<(), AllocError>
     ensures { OnOk result (acts.names_of gets.new.items
         ≡ acts.waiting (acts.names_of gets.old.items) (act_of statement.now)) }
 {
