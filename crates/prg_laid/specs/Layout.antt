@@ -1,4 +1,6 @@
 -- A finished code with what is known of it, as the checker holds it.
+use Rattle.std.specs.Prelude.{◌≡◌, ℕ, List, Some, slice_get}
+use Rattle.shape.specs.declared.lists.IndexList.{IndexList}
 use Rattle.prg_commands.specs.Layout.{Laying}
 use Rattle.prg_values.specs.Placed as placed
 use Rattle.prg_laid.specs.declared.layout.Layout.{Layout}
@@ -11,3 +13,7 @@ laying l = record {
   known = l.known.now;
   filters = l.filters.now;
 }
+
+-- the declared list of a number, counted from 0, is that of the indexes of these numbers
+abbrev pub IsListed : Laying → List ℕ → ℕ → Type 0
+IsListed f indexes n = (list : IndexList) × (slice_get f.declared.lists n ≡ Some list) × (list.indexes.items ≡ indexes)

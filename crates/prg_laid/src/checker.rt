@@ -2,7 +2,7 @@
 
 ghost use Rattle.std.specs.Prelude.{◌≡◌, true};
 ghost use Rattle.prg_commands.specs.Acts as acts;
-ghost use Rattle.prg_laid.specs.Layout.{laying};
+ghost use Rattle.prg_laid.specs.Layout.{laying, IsListed};
 
 use crate::fault::OTHERWISE;
 use crate::filters::demand_filter;
@@ -33,16 +33,36 @@ fn list_at(l: &Layout, place: usize) -> Option<u16> {
     }
 }
 
+/// Whether both are the same numbers.
+fn are_same(one: &[u8], two: &[u8]) -> bool
+    ensures { result ≡ true → one.now ≡ two.now }
+{
+    one == two
+}
+
+/// Whether the declared list of this number, counted from 0, is that of these indexes.
+fn is_listed(l: &Layout, indexes: &[u8], number: usize) -> bool
+    ensures { result ≡ true → IsListed (laying l.now) indexes.now number }
+{
+    match l.declared.lists.as_slice().get(number) {
+        Some(list) => are_same(list.indexes.as_slice(), indexes),
+        None => false,
+    }
+}
+
 /// Whether this is the number, from 1, of the declared list of these indexes, or 0 and there are none.
+#[tactic(auto, using(crate::proofs::Finding::numbered))]
 fn is_list(l: &Layout, indexes: &[u8], number: u16) -> bool
     ensures { result ≡ true → acts.IsNumbered (laying l.now) indexes.now number }
 {
-    if indexes.is_empty() || number == 0 {
-        return indexes.is_empty() && number == 0;
-    }
-    match l.declared.lists.as_slice().get(usize::from(number) - 1) {
-        Some(list) => list.indexes.as_slice() == indexes,
-        None => false,
+    match indexes.split_first() {
+        Some((_first, _others)) => {
+            if number == 0 {
+                return false;
+            }
+            is_listed(l, indexes, usize::from(number) - 1)
+        }
+        None => number == 0,
     }
 }
 

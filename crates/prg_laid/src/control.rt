@@ -261,7 +261,7 @@ fn plain(l: &Layout, gets: &[Get], place: usize, statement: &Statement) -> Found
 
 /// A command that turns the way, where no GET waits. A call isn't taken.
 fn leaving(l: &Layout, leaps: Option<Leaps>, place: usize, turn: Turn) -> FoundLaid<Way>
-    ensures { IfOk result (λ way. choices.TurnedBy (laying l.now) leaps place turn way) }
+    ensures { IfOk result (λ way. choices.TurnedBy (laying l.now) leaps place turn.entry way) }
 {
     match turn {
         Turn::Again => looping(l, leaps, place),

@@ -163,12 +163,7 @@ fn main_of(code: &Code) -> Option<&Proc>
 }
 
 /// Ok if the main procedure of a legal code is laid out as the commands say, its variables in these slots.
-fn demand_laid(
-    alloc: Global,
-    code: &LegalCode,
-    names: &Names,
-    list: &[Command],
-) -> FoundLaid<()>
+fn demand_laid(alloc: Global, code: &LegalCode, names: &Names, list: &[Command]) -> FoundLaid<()>
     ensures { IfOk result (λ _. spec.IsLaid code.now names.now (commands_of list.now)) }
 {
     let code = code.code();
