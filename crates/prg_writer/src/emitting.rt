@@ -1,7 +1,10 @@
 //! The writer as a sink: code is put at the end of the copy that is being written.
 
-ghost use Rattle.std.specs.Prelude.{◌≡◌};
+ghost use Rattle.std.specs.Prelude.{◌≡◌, Bool, true};
+ghost use Rattle.code_items.specs.declared.instr.Instr.TheVariants.{Values};
+ghost use Rattle.code_items.specs.declared.instr.ValueInstr.TheVariants as value_instr;
 ghost use Rattle.prg_values.specs.Readings.{scoped};
+ghost use Rattle.xvalue.specs.declared.settings.Setting.TheVariants as setting;
 ghost use Rattle.prg_writer.specs.Arguments.{scope_at};
 
 use crate::filtering::filter_block;
@@ -14,7 +17,9 @@ use prg_values::{Scope, compile_expr, kind_of};
 use xvalue::{Kind, Setting, Value};
 
 /// Remembers SET CENTURY.
-fn note_setting(out: &mut Output, instr: Instr) {
+fn note_setting(out: &mut Output, instr: Instr)
+    ensures { (on : Bool) → instr ≡ Values (value_instr.Set setting.Century on) → out.new.century ≡ true }
+{
     if let Instr::Values(ValueInstr::Set(Setting::Century, _)) = instr {
         out.century = true;
     }
@@ -48,7 +53,6 @@ impl Writer<'_> {
 }
 
 impl Sink for Writer<'_> {
-    ghost use Rattle.std.specs.Prelude.{⊥};
     ghost use Rattle.prg_commands.specs.Layout.{nothing_laid};
 
     ghost laying = { λ _. nothing_laid };
@@ -68,7 +72,9 @@ impl Sink for Writer<'_> {
 
     fn constant(&mut self, value: Value) -> Result<(), CompileError> {
         let number = self.out.pool.number_of(value)?;
-        self.work.block.put(Instr::Values(ValueInstr::Constant(number)))
+        self.work
+            .block
+            .put(Instr::Values(ValueInstr::Constant(number)))
     }
 
     fn value(&mut self, e: &Expr) -> Result<Kind, CompileError> {

@@ -75,7 +75,11 @@ fn filter_code(w: &mut Writer, e: &Expr) -> Result<Vec<Instr>, CompileError> {
 
 /// The filter of this table whose block is the condition. Kind where that isn't logical; Limit where its code needs too
 /// many values on the stack, or a byte doesn't hold the table's number.
-pub(crate) fn filter_block(w: &mut Writer, table: u16, e: &Expr) -> Result<FilterBlock, CompileError> {
+pub(crate) fn filter_block(
+    w: &mut Writer,
+    table: u16,
+    e: &Expr,
+) -> Result<FilterBlock, CompileError> {
     let block = filter_code(w, e)?;
     note_height(&mut w.out, &block)?;
     let Ok(table) = u8::try_from(table) else {

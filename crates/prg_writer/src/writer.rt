@@ -345,7 +345,12 @@ impl<'a> Writer<'a> {
     }
 
     /// Nothing yet but this copy, of which nothing is written, and the procedures that calls may name.
-    pub fn new(alloc: Global, shape: &'a Shape, work: Work, procedures: NamedProcedures) -> Writer<'a>
+    pub fn new(
+        alloc: Global,
+        shape: &'a Shape,
+        work: Work,
+        procedures: NamedProcedures,
+    ) -> Writer<'a>
         ensures out { result.out ≡ record {
           pool = [];
           lists = [];
@@ -354,7 +359,7 @@ impl<'a> Writer<'a> {
           highest = 0;
           century = false;
         } }
-        ensures shape { result.shape ≡ shape }
+        ensures shape { result.shape.now ≡ shape.now }
         ensures work { result.work ≡ work }
         ensures copies { result.copies.items ≡ [] }
         ensures procedures { result.procedures ≡ procedures }
