@@ -259,9 +259,6 @@ abbrev pub Filtered : Laying → ℕ → Option Tree → ℕ → Type 0
 Filtered f a None b = OnAreas f a (area_instr.Filter 0) b
 Filtered f a (Some e) b = FilteredBy f a e b
 
-abbrev pub order : ℕ → AreaInstr
-order n = area_instr.Order n
-
 abbrev pub Gone : Laying → ℕ → Goal → ℕ → Type 0
 Gone f a Top b = Moved f a move_instr.Top b
 Gone f a Bottom b = Moved f a move_instr.Bottom b

@@ -3,6 +3,7 @@
 ghost use Rattle.std.specs.Prelude.{◌≡◌, IfOk, IfSome, OnOk, Some, map, option_map, position};
 ghost use Rattle.std.specs.List.{AllZip};
 ghost use Rattle.std.specs.Str.{bytes_eq};
+ghost use Rattle.code_items.specs.declared.instr.AreaInstr.TheVariants as area_instr;
 ghost use Rattle.prg_expr.specs.Tree.{tree_of};
 ghost use Rattle.prg_commands.specs.Acts as acts;
 ghost use Rattle.prg_line.specs.Act.{area_said, letters_of};
@@ -161,7 +162,7 @@ pub fn select<S: Sink>(sink: &mut S, area: &Selected) -> Result<(), CompileError
 
 /// `SET ORDER TO order`.
 pub fn set_order<S: Sink>(sink: &mut S, order: u16) -> Result<(), CompileError>
-    ensures laid { S.judges → OnOk result (acts.OnAreas (S.laying sink.old) (S.place sink.old) (acts.order order)
+    ensures laid { S.judges → OnOk result (acts.OnAreas (S.laying sink.old) (S.place sink.old) (area_instr.Order order)
         (S.place sink.new)) }
     ensures same { S.laying sink.new ≡ S.laying sink.old }
 {

@@ -200,8 +200,7 @@ fn begin_copy(
     target: Target,
     names: Names,
     own: Vec<u8>,
-) -> Result<Work, AllocError>
-{
+) -> Result<Work, AllocError> {
     let work = with_own(work_from_here(w, target, &names)?, own);
     w.open_copy(target, names)?;
     Ok(w.begin(work))
@@ -244,8 +243,7 @@ pub fn close_copy(copies: &mut Vec<ProcedureCopy>, number: usize, work: Work) ->
 }
 
 /// Ends the copy of this number, and goes on with the one that was being written before.
-fn end_copy(w: &mut Writer, number: usize, before: Work)
-{
+fn end_copy(w: &mut Writer, number: usize, before: Work) {
     let work = w.begin(before);
     let _ = w.active.pop();
     let _ = close_copy(&mut w.copies, number, work);
@@ -267,8 +265,7 @@ fn level_of(w: &Writer, number: usize) -> u8 {
 }
 
 /// Puts the CALL. Limit where the calls within it are too many together with those around it.
-fn put_call(w: &mut Writer, number: usize) -> Result<(), CompileError>
-{
+fn put_call(w: &mut Writer, number: usize) -> Result<(), CompileError> {
     let level = level_of(w, number);
     if w.active.len().saturating_add(usize::from(level)) > MOST_CALLS {
         return Err(CompileError::Fault(CompileFaultKind::Limit));
@@ -290,8 +287,7 @@ fn handed_to(
     w: &mut Writer,
     target: Target,
     arguments: &[Expr],
-) -> Result<(Names, Vec<u8>), CompileError>
-{
+) -> Result<(Names, Vec<u8>), CompileError> {
     let Handed { slots, own } = hand_all_over(w, arguments)?;
     let (variables, _) = parameters(s.commands(target));
     let names = names_in(w, variables, &slots)?;
@@ -300,8 +296,7 @@ fn handed_to(
 
 /// The number of a copy that is to be begun. None where there is one for these names and what is known here: the call
 /// is put.
-fn new_copy(w: &mut Writer, target: Target, names: &Names) -> Result<Option<usize>, CompileError>
-{
+fn new_copy(w: &mut Writer, target: Target, names: &Names) -> Result<Option<usize>, CompileError> {
     match copy_for(w, target, names) {
         Some(number) => {
             put_call(w, number)?;
@@ -318,8 +313,7 @@ fn called(
     w: &mut Writer,
     target: Target,
     arguments: &[Expr],
-) -> Result<Option<(usize, Work)>, CompileError>
-{
+) -> Result<Option<(usize, Work)>, CompileError> {
     let (names, own) = handed_to(s, w, target, arguments)?;
     match new_copy(w, target, &names)? {
         Some(number) => Ok(Some((number, begin_copy(w, target, names, own)?))),
@@ -334,8 +328,7 @@ pub fn open_call<'a>(
     line: usize,
     procedure: &Name,
     arguments: &[Expr],
-) -> Result<Option<Body<'a>>, CompileRefusal>
-{
+) -> Result<Option<Body<'a>>, CompileRefusal> {
     let result = target_of(s, w, procedure, arguments.len());
     let target = w.told(line, result)?;
     let result = called(s, w, target, arguments);
@@ -357,14 +350,12 @@ pub fn open_call<'a>(
 }
 
 /// Ends the copy, and puts the call.
-pub fn end_call(w: &mut Writer, copy: OpenCopy) -> Result<(), CompileRefusal>
-{
+pub fn end_call(w: &mut Writer, copy: OpenCopy) -> Result<(), CompileRefusal> {
     end_procedure(w, copy.last)?;
     put_copy(w, copy)
 }
 
-fn put_copy(w: &mut Writer, copy: OpenCopy) -> Result<(), CompileRefusal>
-{
+fn put_copy(w: &mut Writer, copy: OpenCopy) -> Result<(), CompileRefusal> {
     let OpenCopy {
         line,
         number,

@@ -53,8 +53,7 @@ pub fn open_if<'a>(
     condition: &'a Expr,
     then: &'a [Command],
     otherwise: &'a Option<Branch>,
-) -> Result<Option<Body<'a>>, CompileRefusal>
-{
+) -> Result<Option<Body<'a>>, CompileRefusal> {
     let Span { first, end } = span;
     let out = match otherwise {
         Some(_) => Some(new_label(w, end)?),
@@ -82,8 +81,7 @@ pub fn open_do_case<'a>(
     cases: &'a [Case],
     otherwise: &'a Option<Branch>,
     end: usize,
-) -> Result<Option<Body<'a>>, CompileRefusal>
-{
+) -> Result<Option<Body<'a>>, CompileRefusal> {
     let out = new_label(w, end)?;
     let choice = Choice {
         cases,
@@ -100,8 +98,7 @@ fn open_part<'a>(
     w: &mut Writer,
     choice: Choice<'a>,
     part: Part<'a>,
-) -> Result<Body<'a>, CompileRefusal>
-{
+) -> Result<Body<'a>, CompileRefusal> {
     let other = new_label(w, part.line)?;
     put_condition(w, part.line, part.condition, other)?;
     Ok(Body {
@@ -113,11 +110,7 @@ fn open_part<'a>(
 }
 
 /// Begins the next part of the choice. Behind the last one, the choice ends.
-fn next_part<'a>(
-    w: &mut Writer,
-    choice: Choice<'a>,
-) -> Result<Option<Body<'a>>, CompileRefusal>
-{
+fn next_part<'a>(w: &mut Writer, choice: Choice<'a>) -> Result<Option<Body<'a>>, CompileRefusal> {
     if let Some((case, cases)) = choice.cases.split_first() {
         let part = Part {
             line: case.line,
@@ -143,8 +136,7 @@ pub fn end_part<'a>(
     w: &mut Writer,
     choice: Choice<'a>,
     other: usize,
-) -> Result<Option<Body<'a>>, CompileRefusal>
-{
+) -> Result<Option<Body<'a>>, CompileRefusal> {
     if let Some(out) = choice.out
         && !choice.is_over()
     {
@@ -155,8 +147,7 @@ pub fn end_part<'a>(
 }
 
 /// Ends the choice.
-pub fn end_choice(w: &mut Writer, choice: Choice) -> Result<(), CompileRefusal>
-{
+pub fn end_choice(w: &mut Writer, choice: Choice) -> Result<(), CompileRefusal> {
     match choice.out {
         Some(out) => place(w, choice.end, out),
         None => Ok(()),

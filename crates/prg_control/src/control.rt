@@ -40,15 +40,13 @@ pub fn commands<'a>(
     s: &'a Source,
     w: &mut Writer,
     list: &'a [Command],
-) -> Result<(), CompileRefusal>
-{
+) -> Result<(), CompileRefusal> {
     let mut nested = only(w.alloc, list)?;
     put_all(s, w, &mut nested)
 }
 
 /// A list that is begun, and nothing around it.
-fn only<'a>(alloc: Global, list: &'a [Command]) -> Result<Vec<Open<'a>>, AllocError>
-{
+fn only<'a>(alloc: Global, list: &'a [Command]) -> Result<Vec<Open<'a>>, AllocError> {
     let mut nested = Vec::new(alloc);
     nested.push(Open {
         begun: None,
@@ -67,8 +65,7 @@ fn put_all<'a>(
     s: &'a Source,
     w: &mut Writer,
     nested: &mut Vec<Open<'a>>,
-) -> Result<(), CompileRefusal>
-{
+) -> Result<(), CompileRefusal> {
     for _ in 0..u64::MAX {
         let Some(innermost) = nested.pop() else {
             return Ok(());
@@ -84,8 +81,7 @@ fn go_on<'a>(
     w: &mut Writer,
     nested: &mut Vec<Open<'a>>,
     innermost: Open<'a>,
-) -> Result<(), CompileRefusal>
-{
+) -> Result<(), CompileRefusal> {
     let list = innermost.body.list;
     match list.split_first() {
         Some((command, others)) if w.work.block.reached => {
@@ -104,8 +100,7 @@ fn put_next<'a>(
     nested: &mut Vec<Open<'a>>,
     leaps: Option<LeapLabels>,
     command: &'a Command,
-) -> Result<(), CompileRefusal>
-{
+) -> Result<(), CompileRefusal> {
     let begun = w.begun()?;
     let outcome = opened(s, w, leaps, command);
     enter(w, nested, begun, outcome)
@@ -116,16 +111,14 @@ fn end<'a>(
     w: &mut Writer,
     nested: &mut Vec<Open<'a>>,
     innermost: Open<'a>,
-) -> Result<(), CompileRefusal>
-{
+) -> Result<(), CompileRefusal> {
     let Open { begun, body } = innermost;
     let outcome = ended(w, body);
     enter(w, nested, begun, outcome)
 }
 
 /// The same with these commands.
-fn with_list<'a>(nested: Open<'a>, list: &'a [Command]) -> Open<'a>
-{
+fn with_list<'a>(nested: Open<'a>, list: &'a [Command]) -> Open<'a> {
     let Open { begun, body } = nested;
     let Body {
         end,
@@ -150,8 +143,7 @@ fn enter<'a>(
     nested: &mut Vec<Open<'a>>,
     begun: Option<Begun>,
     outcome: Result<Option<Body<'a>>, CompileRefusal>,
-) -> Result<(), CompileRefusal>
-{
+) -> Result<(), CompileRefusal> {
     match outcome {
         Ok(Some(body)) => push(nested, Open { begun, body }),
         Ok(None) => Ok(()),
@@ -159,8 +151,7 @@ fn enter<'a>(
     }
 }
 
-fn push<'a>(nested: &mut Vec<Open<'a>>, innermost: Open<'a>) -> Result<(), CompileRefusal>
-{
+fn push<'a>(nested: &mut Vec<Open<'a>>, innermost: Open<'a>) -> Result<(), CompileRefusal> {
     nested.push(innermost)?;
     Ok(())
 }
@@ -170,8 +161,7 @@ fn pass(
     w: &mut Writer,
     begun: &Option<Begun>,
     refusal: CompileRefusal,
-) -> Result<(), CompileRefusal>
-{
+) -> Result<(), CompileRefusal> {
     w.gave_up(begun, Err(refusal))?;
     Ok(())
 }
@@ -182,8 +172,7 @@ fn opened<'a>(
     w: &mut Writer,
     leaps: Option<LeapLabels>,
     command: &'a Command,
-) -> Result<Option<Body<'a>>, CompileRefusal>
-{
+) -> Result<Option<Body<'a>>, CompileRefusal> {
     let line = command.line;
     w.work.block.line = line;
     may_begin(w, command)?;
@@ -194,14 +183,7 @@ fn opened<'a>(
             then,
             otherwise,
             end,
-        } => open_if(
-            w,
-            leaps,
-            Span::of(line, *end),
-            condition,
-            then,
-            otherwise,
-        ),
+        } => open_if(w, leaps, Span::of(line, *end), condition, then, otherwise),
         Form::DoCase {
             cases,
             otherwise,
@@ -221,8 +203,7 @@ fn opened<'a>(
 }
 
 /// Get where a READ is awaited and the command may not stand before it.
-fn may_begin(w: &mut Writer, command: &Command) -> Result<(), CompileRefusal>
-{
+fn may_begin(w: &mut Writer, command: &Command) -> Result<(), CompileRefusal> {
     match &command.form {
         Form::Statement(statement) if may_stand_before_read(statement) => Ok(()),
         _ => no_get_waits(w, command.line),
@@ -236,8 +217,7 @@ fn open_statement<'a>(
     leaps: Option<LeapLabels>,
     line: usize,
     statement: &Statement,
-) -> Result<Option<Body<'a>>, CompileRefusal>
-{
+) -> Result<Option<Body<'a>>, CompileRefusal> {
     let Some(turn) = turn_of(statement) else {
         let result = put_plain(w, line, statement);
         w.told(line, result)?;
@@ -266,18 +246,13 @@ fn put_plain(w: &mut Writer, line: usize, statement: &Statement) -> Result<(), C
 /// Ends the commands of a body, and puts what goes behind them. Gives the next commands within the same command; none
 /// where the command ends. The fault is Get, in the line that ends a part of a block, where the whole part was written
 /// and a READ is awaited.
-fn ended<'a>(w: &mut Writer, body: Body<'a>) -> Result<Option<Body<'a>>, CompileRefusal>
-{
+fn ended<'a>(w: &mut Writer, body: Body<'a>) -> Result<Option<Body<'a>>, CompileRefusal> {
     no_get_waits_behind(w, &body)?;
     put_behind(w, body.behind)
 }
 
 /// Puts what goes behind the commands of a body.
-fn put_behind<'a>(
-    w: &mut Writer,
-    behind: Behind<'a>,
-) -> Result<Option<Body<'a>>, CompileRefusal>
-{
+fn put_behind<'a>(w: &mut Writer, behind: Behind<'a>) -> Result<Option<Body<'a>>, CompileRefusal> {
     match behind {
         Behind::Nothing => Ok(None),
         Behind::Case(choice, other) => end_part(w, choice, other),
@@ -296,8 +271,7 @@ fn over<'a>(outcome: Result<(), CompileRefusal>) -> Result<Option<Body<'a>>, Com
 }
 
 /// The fault Get, in the line that ends a part of a block, where the whole part was written and a READ is awaited.
-fn no_get_waits_behind(w: &mut Writer, body: &Body) -> Result<(), CompileRefusal>
-{
+fn no_get_waits_behind(w: &mut Writer, body: &Body) -> Result<(), CompileRefusal> {
     match body.end {
         Some(line) if body.list.is_empty() => no_get_waits(w, line),
         _ => Ok(()),

@@ -59,8 +59,7 @@ pub fn open_loop<'a>(
     span: Span,
     test: LoopTest<'a>,
     body: &'a [Command],
-) -> Result<Option<Body<'a>>, CompileRefusal>
-{
+) -> Result<Option<Body<'a>>, CompileRefusal> {
     put_first_row(w, span.first, test)?;
     let of = begun_loop(w, span, test, body)?;
     Ok(Some(open_round(w, of)?))
@@ -72,8 +71,7 @@ fn begun_loop<'a>(
     span: Span,
     test: LoopTest<'a>,
     body: &'a [Command],
-) -> Result<Loop<'a>, AllocError>
-{
+) -> Result<Loop<'a>, AllocError> {
     let entry = w.work.block.state.copied(w.alloc)?;
     let held = w.known_at_head(span.first)?;
     know(w, &held)?;
@@ -90,15 +88,13 @@ fn begun_loop<'a>(
 }
 
 /// Goes on with what is known.
-fn know(w: &mut Writer, state: &State) -> Result<(), AllocError>
-{
+fn know(w: &mut Writer, state: &State) -> Result<(), AllocError> {
     w.work.block.state = state.copied(w.alloc)?;
     Ok(())
 }
 
 /// Goes to the first row, for a SCAN in this line; a DO WHILE begins with nothing.
-fn put_first_row(w: &mut Writer, line: usize, test: LoopTest) -> Result<(), CompileRefusal>
-{
+fn put_first_row(w: &mut Writer, line: usize, test: LoopTest) -> Result<(), CompileRefusal> {
     match test {
         LoopTest::While(_) => Ok(()),
         LoopTest::Rows(_) => {
@@ -109,8 +105,7 @@ fn put_first_row(w: &mut Writer, line: usize, test: LoopTest) -> Result<(), Comp
 }
 
 /// Begins a round.
-fn open_round<'a>(w: &mut Writer, of: Loop<'a>) -> Result<Body<'a>, CompileRefusal>
-{
+fn open_round<'a>(w: &mut Writer, of: Loop<'a>) -> Result<Body<'a>, CompileRefusal> {
     let head = put_head(w, &of)?;
     Ok(Body {
         list: of.body,
@@ -121,8 +116,7 @@ fn open_round<'a>(w: &mut Writer, of: Loop<'a>) -> Result<Body<'a>, CompileRefus
 }
 
 /// Puts what goes before the commands of a round.
-fn put_head(w: &mut Writer, of: &Loop) -> Result<Head, CompileRefusal>
-{
+fn put_head(w: &mut Writer, of: &Loop) -> Result<Head, CompileRefusal> {
     let line = of.span.first;
     let top = new_label(w, line)?;
     let leaps = leaps_of(w, line, of.test, top)?;
@@ -140,8 +134,7 @@ fn leaps_of(
     line: usize,
     test: LoopTest,
     top: usize,
-) -> Result<LeapLabels, CompileRefusal>
-{
+) -> Result<LeapLabels, CompileRefusal> {
     let again = match test {
         LoopTest::While(_) => top,
         LoopTest::Rows(_) => new_label(w, line)?,
@@ -157,8 +150,7 @@ fn put_row_test(
     line: usize,
     only_if: &Option<Expr>,
     leaps: LeapLabels,
-) -> Result<(), CompileRefusal>
-{
+) -> Result<(), CompileRefusal> {
     let result = put_scan_test(w);
     w.told(line, result)?;
     let result = w.work.block.jump_false(leaps.out);
@@ -170,8 +162,7 @@ fn put_row_test(
 }
 
 /// Puts the test of a SCAN: whether there is a row.
-fn put_scan_test(w: &mut Writer) -> Result<(), CompileError>
-{
+fn put_scan_test(w: &mut Writer) -> Result<(), CompileError> {
     if w.work.block.state.desk.selected_area().is_none() {
         return Err(CompileError::Fault(CompileFaultKind::ClosedArea));
     }
@@ -182,11 +173,7 @@ fn put_scan_test(w: &mut Writer) -> Result<(), CompileError>
 }
 
 /// Ends a round. Where less is known at the loop's head by its ways back than in this round, it begins another one.
-pub fn end_round<'a>(
-    w: &mut Writer,
-    round: Round<'a>,
-) -> Result<Option<Body<'a>>, CompileRefusal>
-{
+pub fn end_round<'a>(w: &mut Writer, round: Round<'a>) -> Result<Option<Body<'a>>, CompileRefusal> {
     match known_again(w, &round)? {
         Some(state) => Ok(Some(again(w, round.of, state)?)),
         None => {
@@ -198,8 +185,7 @@ pub fn end_round<'a>(
 
 /// Leads back to the loop's head. Where less is known there now than in this round, the answer is what is known, and
 /// Limit where no round may follow. Else the place behind the loop is here, and the answer is none.
-fn known_again(w: &mut Writer, round: &Round) -> Result<Option<State>, CompileRefusal>
-{
+fn known_again(w: &mut Writer, round: &Round) -> Result<Option<State>, CompileRefusal> {
     let (of, head) = (&round.of, round.head);
     let end = of.span.end;
     put_way_back(w, end, of.test, head.top, head.leaps.again)?;
@@ -214,8 +200,7 @@ fn known_again(w: &mut Writer, round: &Round) -> Result<Option<State>, CompileRe
 }
 
 /// Remembers what held at the head of a loop that is written, if the loop took more than one round.
-fn end_loop(w: &mut Writer, of: Loop) -> Result<(), AllocError>
-{
+fn end_loop(w: &mut Writer, of: Loop) -> Result<(), AllocError> {
     let Loop {
         span,
         mark,
@@ -237,8 +222,7 @@ fn put_way_back(
     test: LoopTest,
     top: usize,
     again: usize,
-) -> Result<(), CompileRefusal>
-{
+) -> Result<(), CompileRefusal> {
     match test {
         LoopTest::While(_) => jump(w, end, top),
         LoopTest::Rows(_) => {
@@ -249,8 +233,7 @@ fn put_way_back(
 }
 
 /// Goes on to the next row and back to the top, where this is reached.
-fn put_next_row(w: &mut Writer, end: usize, top: usize) -> Result<(), CompileRefusal>
-{
+fn put_next_row(w: &mut Writer, end: usize, top: usize) -> Result<(), CompileRefusal> {
     if !w.work.block.reached {
         return Ok(());
     }
@@ -266,8 +249,7 @@ fn wider(
     end: usize,
     top: usize,
     held: &State,
-) -> Result<Option<State>, CompileRefusal>
-{
+) -> Result<Option<State>, CompileRefusal> {
     let Some(label) = w.work.block.labels.get(top) else {
         return Ok(None);
     };
@@ -287,12 +269,7 @@ fn wider(
 }
 
 /// Gives the round up, and begins another one with what is known at the head.
-fn again<'a>(
-    w: &mut Writer,
-    of: Loop<'a>,
-    state: State,
-) -> Result<Body<'a>, CompileRefusal>
-{
+fn again<'a>(w: &mut Writer, of: Loop<'a>, state: State) -> Result<Body<'a>, CompileRefusal> {
     let mut of = of;
     w.give_up(&of.mark, &state)?;
     of.held = state;

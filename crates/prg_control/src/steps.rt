@@ -39,16 +39,14 @@ pub fn put_condition(
     line: usize,
     e: &Expr,
     label: usize,
-) -> Result<(), CompileRefusal>
-{
+) -> Result<(), CompileRefusal> {
     put_test(w, line, e)?;
     let result = w.work.block.jump_false(label);
     w.told(line, result)
 }
 
 /// A condition, or .T. in its place.
-fn put_test(w: &mut Writer, line: usize, e: &Expr) -> Result<(), CompileRefusal>
-{
+fn put_test(w: &mut Writer, line: usize, e: &Expr) -> Result<(), CompileRefusal> {
     let begun = w.begun()?;
     w.work.block.line = line;
     let result = condition(w, e);
@@ -62,8 +60,7 @@ fn put_true_for(
     line: usize,
     begun: &Option<Begun>,
     outcome: Result<(), CompileRefusal>,
-) -> Result<(), CompileRefusal>
-{
+) -> Result<(), CompileRefusal> {
     if !w.gave_up(begun, outcome)? {
         return Ok(());
     }
@@ -72,15 +69,13 @@ fn put_true_for(
 }
 
 /// A label that has no place yet.
-pub fn new_label(w: &mut Writer, line: usize) -> Result<usize, CompileRefusal>
-{
+pub fn new_label(w: &mut Writer, line: usize) -> Result<usize, CompileRefusal> {
     let result = w.work.block.new_label();
     w.told(line, result)
 }
 
 /// The label stands here. Merge where different work areas are selected on the ways that meet here.
-pub fn place(w: &mut Writer, line: usize, label: usize) -> Result<(), CompileRefusal>
-{
+pub fn place(w: &mut Writer, line: usize, label: usize) -> Result<(), CompileRefusal> {
     w.work.block.line = line;
     let result = w.work.block.place(label);
     let outcome = w.told(line, result);

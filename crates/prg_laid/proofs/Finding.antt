@@ -12,7 +12,7 @@ use Rattle.prg_commands.specs.declared.statement.Turn.TheVariants.{Again, Out, R
 use Rattle.prg_laid.specs.Choices.{Finishes}
 use Rattle.prg_laid.specs.Commands.{Laid, ends, ends_run}
 use Rattle.prg_commands.specs.Layout.{Laying}
-use Rattle.prg_laid.specs.Layout.{IsListed}
+use Rattle.prg_laid.specs.Layout.{IsDeclaredList}
 use Rattle.prg_laid.specs.declared.way.Leaps.{Leaps}
 use Rattle.prg_laid.specs.declared.way.Way.{Way}
 
@@ -49,6 +49,6 @@ ends_here (Call procedure arguments) act is = tt
 
 -- a list that is found has its number, from 1
 pub numbered : (f : Laying) (indexes : List ℕ) (i : ℕ) (is : List ℕ) (n number : ℕ) → IsFirstAndRest indexes i is
-    → number ≡ n + 1 → IsListed f indexes n → IsNumbered f indexes number
+    → number ≡ n + 1 → IsDeclaredList f indexes n → IsNumbered f indexes number
 numbered f [] i is n number e k h = absurd (let z = e in cc)
 numbered f (x ∷ xs) i is n number e k h = (n, h.0, k, h.1, h.2)

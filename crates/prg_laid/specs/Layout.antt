@@ -15,5 +15,5 @@ laying l = record {
 }
 
 -- the declared list of a number, counted from 0, is that of the indexes of these numbers
-abbrev pub IsListed : Laying → List ℕ → ℕ → Type 0
-IsListed f indexes n = (list : IndexList) × (slice_get f.declared.lists n ≡ Some list) × (list.indexes.items ≡ indexes)
+abbrev pub IsDeclaredList : Laying → List ℕ → ℕ → Type 0
+IsDeclaredList f indexes n = (list : IndexList) × (slice_get f.declared.lists n ≡ Some list) × (list.indexes.items ≡ indexes)

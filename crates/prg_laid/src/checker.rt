@@ -2,7 +2,7 @@
 
 ghost use Rattle.std.specs.Prelude.{◌≡◌, true};
 ghost use Rattle.prg_commands.specs.Acts as acts;
-ghost use Rattle.prg_laid.specs.Layout.{laying, IsListed};
+ghost use Rattle.prg_laid.specs.Layout.{laying, IsDeclaredList};
 
 use crate::fault::OTHERWISE;
 use crate::filters::demand_filter;
@@ -42,7 +42,7 @@ fn are_same(one: &[u8], two: &[u8]) -> bool
 
 /// Whether the declared list of this number, counted from 0, is that of these indexes.
 fn is_listed(l: &Layout, indexes: &[u8], number: usize) -> bool
-    ensures { result ≡ true → IsListed (laying l.now) indexes.now number }
+    ensures { result ≡ true → IsDeclaredList (laying l.now) indexes.now number }
 {
     match l.declared.lists.as_slice().get(number) {
         Some(list) => are_same(list.indexes.as_slice(), indexes),
