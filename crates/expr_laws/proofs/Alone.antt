@@ -12,8 +12,8 @@ use Rattle.prg_line.specs.Act.{Act, Letters, Number, Named, Top, Bottom, Record}
 use Rattle.prg_line.specs.Act as act
 use Rattle.prg_values.specs.OneInstr.{only_instr, setting_of}
 use Rattle.prg_values.specs.Placed.{InstrStands}
-use Rattle.prg_laid.specs.Acts.{ActLaid}
-use Rattle.prg_laid.specs.Layout.{Laying}
+use Rattle.prg_commands.specs.Acts.{ActLaid}
+use Rattle.prg_commands.specs.Layout.{Laying}
 
 -- the command is laid out just where the instruction stands
 abbrev pub IsLaidBy : Laying → List Letters → ℕ → ℕ → Act → Instr → Type 0

@@ -12,8 +12,8 @@ ghost use Rattle.expr_laws.specs.Seeing.{sight, HasWay, IsThere, StandsAt, with_
 ghost use Rattle.fit_laws.specs.Fits.{IsFitting};
 ghost use Rattle.prg_code.specs.Numbers.{Grows};
 ghost use Rattle.prg_expr.specs.Tree.{Tree};
-ghost use Rattle.prg_laid.specs.Acts.{ActLaid};
-ghost use Rattle.prg_laid.specs.Layout.{Laying};
+ghost use Rattle.prg_commands.specs.Acts.{ActLaid};
+ghost use Rattle.prg_commands.specs.Layout.{Laying};
 ghost use Rattle.prg_line.specs.Act.{Act, Letters};
 ghost use Rattle.prg_values.specs.OneInstr.{only_instr};
 ghost use Rattle.prg_values.specs.Placed.{InstrStands};

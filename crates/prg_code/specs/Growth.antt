@@ -51,14 +51,6 @@ pub record IsBesidePieces (earlier later : DraftBlock) : Type 0 where
   pub reached : later.reached ≡ earlier.reached
   pub highest : later.highest ≡ earlier.highest
 
--- A copy of a procedure: it stays that of the same file, and keeps its own slots.
-pub record WorkGrows (earlier later : Work) : Type 0 where
-  pub file : later.file ≡ earlier.file
-  pub is_main : later.is_main ≡ earlier.is_main
-  pub block : BlockGrows earlier.block later.block
-  pub own : Grows earlier.own.items later.own.items
-  pub level : earlier.level ≤ later.level
-
 -- a copy of which nothing is written yet
 pub record IsNewWork (file : ℕ) (is_main : Bool) (block : DraftBlock) (names : NamedVariables)
     (work : Work) : Type 0 where
@@ -70,11 +62,6 @@ pub record IsNewWork (file : ℕ) (is_main : Bool) (block : DraftBlock) (names :
   pub gets : work.gets.items ≡ []
   pub level : work.level ≡ 0
   pub exit : work.exit ≡ None
-
--- both
-pub record Grown (earlier : Output) (before : Work) (later : Output) (after : Work) : Type 0 where
-  pub output : OutputGrows earlier later
-  pub work : WorkGrows before after
 
 -- ---- what is put
 

@@ -1,2 +1,1 @@
-mod Releasing
-mod Pooling
+pub mod Indexes

@@ -1,54 +1,39 @@
 //! Commands on work areas.
 
-ghost use Rattle.std.specs.Prelude.{◌≡◌, [], ◌∷◌, ℕ, false, IfErr, IfOk, None, OnOk, Some, option_map, position};
-ghost use Rattle.prg_code.specs.declared.fault.CompileError.TheVariants as error;
-ghost use Rattle.prg_code.specs.declared.fault.CompileFaultKind.TheVariants as fault;
+ghost use Rattle.std.specs.Prelude.{◌≡◌, IfOk, IfSome, OnOk, Some, map, option_map, position};
+ghost use Rattle.std.specs.List.{AllZip};
 ghost use Rattle.std.specs.Str.{bytes_eq};
-ghost use Rattle.code_items.specs.Desks.{open_at};
 ghost use Rattle.code_items.specs.declared.instr.AreaInstr.TheVariants as area_instr;
-ghost use Rattle.code_items.specs.declared.instr.Instr.TheVariants.{Areas};
-ghost use Rattle.prg_code.specs.Growth.{OutputGrows, Grown, WorkGrows, Puts};
 ghost use Rattle.prg_expr.specs.Tree.{tree_of};
-ghost use Rattle.prg_line.specs.Act as act;
-ghost use Rattle.prg_line.specs.Act.{area_said};
-ghost use Rattle.prg_values.specs.Readings.{table_named as table_named_in, alias_area};
-ghost use Rattle.prg_commands.specs.Commands.{index_named as index_named_in, scope_at, PutsAlone};
+ghost use Rattle.prg_commands.specs.Acts as acts;
+ghost use Rattle.prg_line.specs.Act.{area_said, letters_of};
+ghost use Rattle.prg_values.specs.Readings.{table_named as table_named_in};
 ghost use Rattle.shape.specs.Lists.{is_index_of};
 
-use crate::values::{demand, scope_of};
+use crate::sink::Sink;
 use arrayvec::ArrayVec;
-use code_items::{AreaInstr, IndexShape, Instr, Name, Need, OpenArea, Shape, ValueInstr};
-use code_rules::Signature;
+use code_items::{AreaInstr, IndexShape, Instr, Name, OpenArea, Shape};
 use code_rules::desks::others_hold;
-use prg_code::{
-    CompileError, CompileFaultKind, FilterBlock, ListedIndexes, Output, Work, indexes_opened,
-};
+use prg_code::{CompileError, CompileFaultKind, ListedIndexes};
 use prg_expr::Expr;
 use prg_line::Selected;
-use prg_values::{Scope, area_of_alias, compile_expr, kind_of, number_in_byte, table_named};
-use xvalue::Kind;
-
-/// The most values on the stack.
-const MOST_VALUES: usize = 64;
+use prg_values::{Scope, area_of_alias, number_in_byte, table_named};
 
 /// What the selected work area holds. ClosedArea where it isn't known to be open.
-pub fn opened(work: &Work) -> Result<OpenArea, CompileError>
-    ensures open { IfOk result (λ area. open_at work.now.block.state.desk work.now.block.state.desk.selected
-        ≡ Some area) }
-    ensures closed { IfErr result (λ e. (e ≡ error.Fault fault.ClosedArea)
-        × (open_at work.now.block.state.desk work.now.block.state.desk.selected ≡ None)) }
-{
-    match work.block.state.desk.selected_area() {
+pub(crate) fn opened<S: Sink>(sink: &S) -> Result<OpenArea, CompileError> {
+    let scope = sink.scope()?;
+    match scope.state.desk.selected_area() {
         Some(area) => Ok(area),
         None => Err(CompileError::Fault(CompileFaultKind::ClosedArea)),
     }
 }
 
-pub(crate) fn put_area(work: &mut Work, instr: AreaInstr) -> Result<(), CompileError>
-    ensures put { OnOk result (Puts (Areas instr ∷ []) work.old.block work.new.block) }
-    ensures grown { WorkGrows work.old work.new }
+pub(crate) fn put_area<S: Sink>(sink: &mut S, instr: AreaInstr) -> Result<(), CompileError>
+    ensures laid { S.judges → OnOk result (acts.OnAreas (S.laying sink.old) (S.place sink.old) instr
+        (S.place sink.new)) }
+    ensures same { S.laying sink.new ≡ S.laying sink.old }
 {
-    work.block.put(Instr::Areas(instr))
+    sink.put(Instr::Areas(instr))
 }
 
 /// The place of the first declared index of this name.
@@ -61,8 +46,9 @@ fn place_named(indexes: &[IndexShape], name: &[u8]) -> Option<usize>
 }
 
 /// The number of the declared index of this name, counted from 0; none where a byte doesn't hold it.
-pub fn index_named(indexes: &[IndexShape], name: &[u8]) -> Option<u8>
-    ensures { result ≡ index_named_in indexes.now name.now }
+#[tactic(auto, using(crate::proofs::Indexes::names_index))]
+pub(crate) fn index_named(indexes: &[IndexShape], name: &[u8]) -> Option<u8>
+    ensures { IfSome result (acts.NamesIndex indexes.now name.now) }
 {
     match place_named(indexes, name) {
         Some(place) => number_in_byte(place),
@@ -71,7 +57,7 @@ pub fn index_named(indexes: &[IndexShape], name: &[u8]) -> Option<u8>
 }
 
 /// Whether the index of this number is one of the table of this number.
-pub fn is_of_table(indexes: &[IndexShape], number: u8, table: u16) -> bool
+pub(crate) fn is_of_table(indexes: &[IndexShape], number: u8, table: u16) -> bool
     ensures { result ≡ is_index_of indexes.now table number }
 {
     match indexes.get(usize::from(number)) {
@@ -82,9 +68,12 @@ pub fn is_of_table(indexes: &[IndexShape], number: u8, table: u16) -> bool
 
 /// The list of these indexes: Name where one isn't declared, Index where one is of another table or named twice, Limit
 /// where there are more than seven.
-fn list_of(shape: &Shape, table: u16, names: &[Name]) -> Result<ListedIndexes, CompileError> {
+fn list_of(shape: &Shape, table: u16, names: &[Name]) -> Result<ListedIndexes, CompileError>
+    ensures { IfOk result (λ list. AllZip (acts.NamesIndex shape.now.indexes) (map letters_of names.now) list.items) }
+{
     let mut indexes = ArrayVec::new();
-    for name in names {
+    let mut rest = names;
+    while let Some((name, others)) = rest.split_first() {
         let Some(number) = index_named(shape.indexes.as_slice(), name.as_slice()) else {
             return Err(CompileError::Fault(CompileFaultKind::Name));
         };
@@ -96,48 +85,60 @@ fn list_of(shape: &Shape, table: u16, names: &[Name]) -> Result<ListedIndexes, C
         if indexes.try_push(number).is_err() {
             return Err(CompileError::Fault(CompileFaultKind::Limit));
         }
+        rest = others;
     }
     Ok(indexes)
 }
 
-/// The number of the list of these indexes, counted from 1; of none 0.
-fn list_number(out: &mut Output, list: ListedIndexes) -> Result<u32, CompileError>
-    ensures { OutputGrows out.old out.new }
+/// Whether another work area than the selected one holds the table, or may hold it.
+fn is_held(scope: &Scope, table: u16) -> bool {
+    let desk = &scope.state.desk;
+    others_hold(table, desk.selected, desk.areas.as_slice())
+}
+
+/// The number of the declared table of this name.
+fn table_of<S: Sink>(sink: &S, name: &Name) -> Result<u16, CompileError>
+    ensures { S.judges → IfOk result
+        (λ table. table_named_in (S.laying sink.now).declared.shape name.now.items ≡ Some table) }
 {
-    if list.is_empty() {
-        return Ok(0);
+    let scope = sink.scope()?;
+    match table_named(scope.shape, name.as_slice()) {
+        Some(table) => Ok(table),
+        None => Err(CompileError::Fault(CompileFaultKind::Name)),
     }
-    Ok(u32::from(out.lists.number(list)?) + 1)
+}
+
+/// The number of the list of these indexes of the table, which is to be opened. OpenTwice where another work area holds
+/// it or may hold it.
+#[tactic(auto, using(crate::proofs::Indexes::is_list))]
+fn list_to_open<S: Sink>(sink: &mut S, table: u16, names: &[Name]) -> Result<u16, CompileError>
+    ensures number { S.judges → IfOk result (acts.IsList (S.laying sink.old) (map letters_of names.now)) }
+    ensures place { S.judges → S.place sink.new ≡ S.place sink.old }
+    ensures same { S.laying sink.new ≡ S.laying sink.old }
+{
+    let scope = sink.scope()?;
+    let list = list_of(scope.shape, table, names)?;
+    if is_held(&scope, table) {
+        return Err(CompileError::Fault(CompileFaultKind::OpenTwice));
+    }
+    sink.list(list)
 }
 
 /// `USE table [INDEX indexes]`.
-pub fn open_table(
-    shape: &Shape,
-    out: &mut Output,
-    work: &mut Work,
-    name: &Name,
-    indexes: &[Name],
-) -> Result<(), CompileError>
-    ensures put { OnOk result ((table : ℕ) × (list : ℕ) × (table_named_in shape.now name.now.items ≡ Some table)
-        × Puts (Areas (area_instr.Open table list) ∷ []) work.old.block work.new.block) }
-    ensures grown { Grown out.old work.old out.new work.new }
+pub fn open_table<S: Sink>(sink: &mut S, name: &Name, indexes: &[Name]) -> Result<(), CompileError>
+    ensures laid { S.judges → OnOk result (acts.Opened (S.laying sink.old) (S.place sink.old) name.now.items
+        (map letters_of indexes.now) (S.place sink.new)) }
+    ensures same { S.laying sink.new ≡ S.laying sink.old }
 {
-    let Some(table) = table_named(shape, name.as_slice()) else {
-        return Err(CompileError::Fault(CompileFaultKind::Name));
-    };
-    let list = list_of(shape, table, indexes)?;
-    let desk = &work.block.state.desk;
-    if others_hold(table, desk.selected, desk.areas.as_slice()) {
-        return Err(CompileError::Fault(CompileFaultKind::OpenTwice));
-    }
-    let list = list_number(out, list)?;
-    put_area(work, AreaInstr::Open { table, list })
+    let table = table_of(sink, name)?;
+    let list = u32::from(list_to_open(sink, table, indexes)?);
+    put_area(sink, AreaInstr::Open { table, list })
 }
 
-fn area_named(shape: &Shape, work: &Work, name: &Name) -> Result<u8, CompileError>
-    ensures { IfOk result (λ area. alias_area (scope_at shape.now work.now false) name.now.items ≡ Some area) }
+fn area_named<S: Sink>(sink: &S, name: &Name) -> Result<u8, CompileError>
+    ensures { S.judges → IfOk result (acts.IsArea (S.laying sink.now) (S.place sink.now) name.now.items) }
 {
-    let scope = scope_of(shape, work);
+    let scope = sink.scope()?;
     match area_of_alias(&scope, name.as_slice()) {
         Ok(area) => Ok(area),
         Err(fault) => Err(CompileError::Fault(fault)),
@@ -145,157 +146,52 @@ fn area_named(shape: &Shape, work: &Work, name: &Name) -> Result<u8, CompileErro
 }
 
 /// `SELECT area`.
-pub fn select(shape: &Shape, work: &mut Work, area: &Selected) -> Result<(), CompileError>
-    ensures alone { OnOk result (PutsAlone (act.Select (area_said area.now)) work.old.block work.new.block) }
-    ensures grown { WorkGrows work.old work.new }
+pub fn select<S: Sink>(sink: &mut S, area: &Selected) -> Result<(), CompileError>
+    ensures laid { S.judges → OnOk result (acts.Selected (S.laying sink.old) (S.place sink.old) (area_said area.now)
+        (S.place sink.new)) }
+    ensures same { S.laying sink.new ≡ S.laying sink.old }
 {
     match area {
-        Selected::Number(number) => put_area(work, AreaInstr::Select(*number)),
-        Selected::Name(name) => select_named(shape, work, name),
+        Selected::Number(number) => put_area(sink, AreaInstr::Select(*number)),
+        Selected::Name(name) => {
+            let number = area_named(sink, name)?;
+            put_area(sink, AreaInstr::Select(number))
+        }
     }
-}
-
-/// `SELECT` of a letter or a table's name.
-fn select_named(shape: &Shape, work: &mut Work, name: &Name) -> Result<(), CompileError>
-    ensures put { OnOk result ((n : ℕ) × (alias_area (scope_at shape.now work.old false) name.now.items ≡ Some n)
-        × Puts (Areas (area_instr.Select n) ∷ []) work.old.block work.new.block) }
-    ensures grown { WorkGrows work.old work.new }
-{
-    let number = area_named(shape, work, name)?;
-    put_area(work, AreaInstr::Select(number))
 }
 
 /// `SET ORDER TO order`.
-pub fn set_order(out: &Output, work: &mut Work, order: u16) -> Result<(), CompileError>
-    ensures put { OnOk result (Puts (Areas (area_instr.Order order) ∷ []) work.old.block work.new.block) }
-    ensures grown { WorkGrows work.old work.new }
+pub fn set_order<S: Sink>(sink: &mut S, order: u16) -> Result<(), CompileError>
+    ensures laid { S.judges → OnOk result (acts.OnAreas (S.laying sink.old) (S.place sink.old) (area_instr.Order order)
+        (S.place sink.new)) }
+    ensures same { S.laying sink.new ≡ S.laying sink.old }
 {
-    let area = opened(work)?;
-    if indexes_opened(&out.lists, area.list) < usize::from(order) {
+    let area = opened(sink)?;
+    if !sink.has_order(area, order) {
         return Err(CompileError::Fault(CompileFaultKind::NoOrder));
     }
-    put_area(work, AreaInstr::Order(order))
-}
-
-/// The slots that a filter's block loads, rising.
-fn needs_of(work: &Work, block: &[Instr]) -> Result<Vec<Need>, CompileError> {
-    let mut needs = Vec::new(work.alloc);
-    for slot in 0..=255u8 {
-        if let Some(kind) = loaded(block, slot) {
-            needs.push(Need { slot, kind })?;
-        }
-    }
-    Ok(needs)
-}
-
-/// The kind in which the instructions load the slot, if they do.
-fn loaded(block: &[Instr], slot: u8) -> Option<Kind> {
-    for instr in block {
-        if let Instr::Values(ValueInstr::Load(kind, number)) = *instr
-            && number == u16::from(slot)
-        {
-            return Some(kind);
-        }
-    }
-    None
-}
-
-/// The most values on the stack along instructions that begin with none.
-fn height(block: &[Instr]) -> usize {
-    let mut depth = 0usize;
-    let mut highest = 0usize;
-    for instr in block {
-        let signature = Signature::of(*instr);
-        depth = depth
-            .saturating_sub(signature.taken)
-            .saturating_add(signature.adds);
-        highest = highest.max(depth);
-    }
-    highest
-}
-
-fn filter_code(
-    shape: &Shape,
-    out: &mut Output,
-    work: &Work,
-    e: &Expr,
-) -> Result<Vec<Instr>, CompileError>
-    ensures { OutputGrows out.old out.new }
-{
-    let scope = Scope {
-        in_filter: true,
-        ..scope_of(shape, work)
-    };
-    let kind = kind_of(&scope, e)?;
-    demand(kind, Kind::Logical)?;
-    Ok(compile_expr(work.alloc, e, &scope, &mut out.pool)?)
-}
-
-/// The number of the filter whose block is the condition.
-fn filter_number(
-    shape: &Shape,
-    out: &mut Output,
-    work: &Work,
-    table: u16,
-    e: &Expr,
-) -> Result<u16, CompileError>
-    ensures { OutputGrows out.old out.new }
-{
-    let block = filter_code(shape, out, work, e)?;
-    note_height(out, &block)?;
-    let filter = filter_of(work, table, block)?;
-    Ok(out.filters.number(filter)? + 1)
-}
-
-/// Remembers how high the stack is in the block. Limit where that is too high.
-fn note_height(out: &mut Output, block: &[Instr]) -> Result<(), CompileError>
-    ensures { OutputGrows out.old out.new }
-{
-    let height = height(block);
-    if height > MOST_VALUES {
-        return Err(CompileError::Fault(CompileFaultKind::Limit));
-    }
-    out.highest = out.highest.max(height);
-    Ok(())
-}
-
-/// The filter of this table with this block.
-fn filter_of(work: &Work, table: u16, block: Vec<Instr>) -> Result<FilterBlock, CompileError> {
-    let Ok(table) = u8::try_from(table) else {
-        return Err(CompileError::Fault(CompileFaultKind::Limit));
-    };
-    let needs = needs_of(work, &block)?;
-    Ok(FilterBlock::new(table, needs, block, work.source_line()))
-}
-
-/// `SET FILTER TO [condition]`.
-pub fn set_filter(
-    shape: &Shape,
-    out: &mut Output,
-    work: &mut Work,
-    condition: &Option<Expr>,
-) -> Result<(), CompileError>
-    ensures alone { OnOk result
-        (PutsAlone (act.SetFilter (option_map tree_of condition.now)) work.old.block work.new.block) }
-    ensures grown { Grown out.old work.old out.new work.new }
-{
-    let area = opened(work)?;
-    match condition {
-        Some(e) => filter_by(shape, out, work, area.table, e),
-        None => put_area(work, AreaInstr::Filter(0)),
-    }
+    put_area(sink, AreaInstr::Order(order))
 }
 
 /// Sets the filter of the condition, of this table.
-fn filter_by(
-    shape: &Shape,
-    out: &mut Output,
-    work: &mut Work,
-    table: u16,
-    e: &Expr,
-) -> Result<(), CompileError>
-    ensures { Grown out.old work.old out.new work.new }
+fn filter_by<S: Sink>(sink: &mut S, table: u16, e: &Expr) -> Result<(), CompileError>
+    ensures laid { S.judges → OnOk result (acts.FilteredBy (S.laying sink.old) (S.place sink.old) (tree_of e.now)
+        (S.place sink.new)) }
+    ensures same { S.laying sink.new ≡ S.laying sink.old }
 {
-    let number = filter_number(shape, out, work, table, e)?;
-    put_area(work, AreaInstr::Filter(number))
+    let number = sink.filter(table, e)?;
+    put_area(sink, AreaInstr::Filter(number))
+}
+
+/// `SET FILTER TO [condition]`.
+pub fn set_filter<S: Sink>(sink: &mut S, condition: &Option<Expr>) -> Result<(), CompileError>
+    ensures laid { S.judges → OnOk result (acts.Filtered (S.laying sink.old) (S.place sink.old)
+        (option_map tree_of condition.now) (S.place sink.new)) }
+    ensures same { S.laying sink.new ≡ S.laying sink.old }
+{
+    let area = opened(sink)?;
+    match condition {
+        Some(e) => filter_by(sink, area.table, e),
+        None => put_area(sink, AreaInstr::Filter(0)),
+    }
 }

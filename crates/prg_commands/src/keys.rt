@@ -1,16 +1,15 @@
 //! Keys as declared, and INDEX.
 
-ghost use Rattle.std.specs.Prelude.{[], ◌∷◌, ℕ, OnOk};
-ghost use Rattle.code_items.specs.declared.instr.RecordInstr.TheVariants as record_instr;
-ghost use Rattle.code_items.specs.declared.instr.Instr.TheVariants.{Records};
-ghost use Rattle.prg_code.specs.Growth.{OutputGrows, Grown, Puts};
+ghost use Rattle.std.specs.Prelude.{◌≡◌, [], ◌∷◌, IfOk, OnOk};
+ghost use Rattle.prg_commands.specs.Acts as acts;
 
 use crate::areas::{index_named, is_of_table, opened};
-use crate::moves::meets_filter;
+use crate::moves::demand_filter;
+use crate::sink::Sink;
 use arrayvec::ArrayVec;
 use code_items::{Instr, KeyPart, Name, RecordInstr, Shape};
 use dbf_file::Field;
-use prg_code::{CompileError, CompileFaultKind, Output, Work};
+use prg_code::{CompileError, CompileFaultKind, ListedIndexes};
 use prg_expr::{BinaryOperator, Expr, Function};
 
 fn is_field(fields: &[Field], number: u8, name: &[u8]) -> bool {
@@ -69,37 +68,52 @@ fn is_key_of(shape: &Shape, number: u8, e: &Expr) -> bool {
     }
 }
 
-/// The number of the list of this index alone, counted from 1.
-fn list_of_one(out: &mut Output, index: u8) -> Result<u16, CompileError>
-    ensures { OutputGrows out.old out.new }
+/// The list of this index alone.
+fn list_of_one(index: u8) -> ListedIndexes
+    ensures { result.items ≡ index ∷ [] }
 {
     let mut indexes = ArrayVec::new();
     let _ = indexes.try_push(index);
-    Ok(out.lists.number(indexes)? + 1)
+    indexes
 }
 
-/// `INDEX ON key TO index`.
-pub fn index_on(
-    shape: &Shape,
-    out: &mut Output,
-    work: &mut Work,
-    key: &Expr,
-    name: &Name,
-) -> Result<(), CompileError>
-    ensures put { OnOk result ((list : ℕ) × Puts (Records (record_instr.Index list) ∷ []) work.old.block
-        work.new.block) }
-    ensures grown { Grown out.old work.old out.new work.new }
+/// The number of the index of this name, whose table is the selected one and whose key is this one: Name where it isn't
+/// declared, Index where it is of another table or key, Filter where a filter's variable isn't known to have its value.
+fn index_to_make<S: Sink>(sink: &S, key: &Expr, name: &Name) -> Result<u8, CompileError>
+    ensures { S.judges → IfOk result (acts.IsIndex (S.laying sink.now) name.now.items) }
 {
+    let scope = sink.scope()?;
+    let shape = scope.shape;
     let Some(number) = index_named(shape.indexes.as_slice(), name.as_slice()) else {
         return Err(CompileError::Fault(CompileFaultKind::Name));
     };
-    let area = opened(work)?;
+    let area = opened(sink)?;
     if !is_of_table(shape.indexes.as_slice(), number, area.table)
         || !is_key_of(shape, number, key)
     {
         return Err(CompileError::Fault(CompileFaultKind::Index));
     }
-    meets_filter(out, work, area)?;
-    let list = list_of_one(out, number)?;
-    work.block.put(Instr::Records(RecordInstr::Index(list)))
+    demand_filter(sink, area)?;
+    Ok(number)
+}
+
+/// The number of the list of the index of this name alone.
+#[tactic(auto, using(crate::proofs::Indexes::is_list))]
+fn list_to_make<S: Sink>(sink: &mut S, key: &Expr, name: &Name) -> Result<u16, CompileError>
+    ensures number { S.judges → IfOk result (acts.IsList (S.laying sink.old) (name.now.items ∷ [])) }
+    ensures place { S.judges → S.place sink.new ≡ S.place sink.old }
+    ensures same { S.laying sink.new ≡ S.laying sink.old }
+{
+    let number = index_to_make(sink, key, name)?;
+    sink.list(list_of_one(number))
+}
+
+/// `INDEX ON key TO index`.
+pub fn index_on<S: Sink>(sink: &mut S, key: &Expr, name: &Name) -> Result<(), CompileError>
+    ensures laid { S.judges → OnOk result (acts.Indexed (S.laying sink.old) (S.place sink.old)
+        (name.now.items ∷ []) (S.place sink.new)) }
+    ensures same { S.laying sink.new ≡ S.laying sink.old }
+{
+    let list = list_to_make(sink, key, name)?;
+    sink.put(Instr::Records(RecordInstr::Index(list)))
 }

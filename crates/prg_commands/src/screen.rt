@@ -1,239 +1,263 @@
 //! Commands on the screen, and those that take the operator's lines.
 
-ghost use Rattle.prg_code.specs.Growth.{Grown, WorkGrows};
+ghost use Rattle.std.specs.Prelude.{◌≡◌, IfOk, OnOk, map, option_map};
+ghost use Rattle.prg_expr.specs.Tree.{tree_of};
+ghost use Rattle.prg_commands.specs.Acts as acts;
+ghost use Rattle.prg_commands.specs.Layout.{NameLaid};
+ghost use Rattle.prg_line.specs.Act.{letters_of};
 
-use crate::values::{
-    demand, put_one, put_screen, put_text, put_value, reading_of, value, value_of_kind,
-};
+use crate::sink::Sink;
+use crate::values::{demand, put_one, put_screen, put_value, reading_of, value_of_kind};
 use crate::variables::put_store;
-use code_items::{Instr, Name, RecordInstr, ScreenInstr, Shape, ValueInstr};
-use prg_code::{CompileError, Get, Output, Work};
+use code_items::{Instr, Name, RecordInstr, ScreenInstr, ValueInstr};
+use prg_code::{CompileError, CompileFaultKind, Get};
 use prg_expr::Expr;
 use prg_values::Reading;
-use shape::copy_of_name;
-use xvalue::{Fun, Kind, TextFun};
+use xvalue::{Fun, Kind, TextFun, Value, text_from};
 
-/// Shows the values at the cursor, a blank between two.
-pub fn show(
-    shape: &Shape,
-    out: &mut Output,
-    work: &mut Work,
-    values: &[Expr],
-) -> Result<(), CompileError>
-    ensures { Grown out.old work.old out.new work.new }
+fn show_one<S: Sink>(sink: &mut S, e: &Expr) -> Result<(), CompileError>
+    ensures laid { S.judges → OnOk result (acts.ShownOne (S.laying sink.old) (S.place sink.old) (tree_of e.now)
+        (S.place sink.new)) }
+    ensures same { S.laying sink.new ≡ S.laying sink.old }
 {
-    let mut is_first = true;
-    for e in values {
-        put_blank(out, work, is_first)?;
-        is_first = false;
-        let kind = value(shape, out, work, e)?;
-        put_screen(work, ScreenInstr::Print(kind))?;
+    let kind = sink.value(e)?;
+    put_screen(sink, ScreenInstr::Print(kind))
+}
+
+fn show_blank<S: Sink>(sink: &mut S) -> Result<(), CompileError>
+    ensures laid { S.judges → OnOk result (acts.ShownBlank (S.laying sink.old) (S.place sink.old)
+        (S.place sink.new)) }
+    ensures same { S.laying sink.new ≡ S.laying sink.old }
+{
+    sink.constant(Value::Text(text_from(b" ")))?;
+    put_screen(sink, ScreenInstr::Print(Kind::Text))
+}
+
+/// Shows values, each after a blank.
+fn show_more<S: Sink>(sink: &mut S, values: &[Expr]) -> Result<(), CompileError>
+    ensures laid { S.judges → OnOk result (acts.ShownMore (S.laying sink.old) (S.place sink.old)
+        (map tree_of values.now) (S.place sink.new)) }
+    ensures same { S.laying sink.new ≡ S.laying sink.old }
+{
+    let mut rest = values;
+    while let Some((e, others)) = rest.split_first() {
+        show_blank(sink)?;
+        show_one(sink, e)?;
+        rest = others;
     }
     Ok(())
 }
 
-/// Shows a blank, but before the first value nothing.
-fn put_blank(out: &mut Output, work: &mut Work, is_first: bool) -> Result<(), CompileError>
-    ensures { Grown out.old work.old out.new work.new }
+/// `?? list`: shows the values at the cursor, a blank between two.
+pub fn show<S: Sink>(sink: &mut S, values: &[Expr]) -> Result<(), CompileError>
+    ensures laid { S.judges → OnOk result (acts.Shown (S.laying sink.old) (S.place sink.old) (map tree_of values.now)
+        (S.place sink.new)) }
+    ensures same { S.laying sink.new ≡ S.laying sink.old }
 {
-    if is_first {
-        return Ok(());
+    match values.split_first() {
+        Some((e, others)) => {
+            show_one(sink, e)?;
+            show_more(sink, others)
+        }
+        None => Ok(()),
     }
-    put_text(out, work, b" ")?;
-    put_screen(work, ScreenInstr::Print(Kind::Text))
 }
 
 /// `? [list]`.
-pub fn show_line(
-    shape: &Shape,
-    out: &mut Output,
-    work: &mut Work,
-    values: &[Expr],
-) -> Result<(), CompileError>
-    ensures { Grown out.old work.old out.new work.new }
+pub fn show_line<S: Sink>(sink: &mut S, values: &[Expr]) -> Result<(), CompileError>
+    ensures laid { S.judges → OnOk result (acts.ShownLine (S.laying sink.old) (S.place sink.old)
+        (map tree_of values.now) (S.place sink.new)) }
+    ensures same { S.laying sink.new ≡ S.laying sink.old }
 {
-    put_screen(work, ScreenInstr::NewLine)?;
-    show(shape, out, work, values)
+    put_screen(sink, ScreenInstr::NewLine)?;
+    show(sink, values)
 }
 
 /// `@ row,column SAY value`.
-pub fn say(
-    shape: &Shape,
-    out: &mut Output,
-    work: &mut Work,
-    row: &Expr,
-    column: &Expr,
-    e: &Expr,
-) -> Result<(), CompileError>
-    ensures { Grown out.old work.old out.new work.new }
+pub fn say<S: Sink>(sink: &mut S, row: &Expr, column: &Expr, e: &Expr) -> Result<(), CompileError>
+    ensures laid { S.judges → OnOk result (acts.SayLaid (S.laying sink.old) (S.place sink.old) (tree_of row.now)
+        (tree_of column.now) (tree_of e.now) (S.place sink.new)) }
+    ensures same { S.laying sink.new ≡ S.laying sink.old }
 {
-    let row = value(shape, out, work, row)?;
-    let column = value(shape, out, work, column)?;
-    let kind = value(shape, out, work, e)?;
+    let row = sink.value(row)?;
+    let column = sink.value(column)?;
+    let kind = sink.value(e)?;
     demand(row, Kind::Number)?;
     demand(column, Kind::Number)?;
-    put_screen(work, ScreenInstr::Say(kind))
+    put_screen(sink, ScreenInstr::Say(kind))
 }
 
-/// Puts the variable's or field's value, and remembers it for READ.
-fn put_get(
-    shape: &Shape,
-    work: &mut Work,
-    line: usize,
-    variable: &Name,
-) -> Result<Kind, CompileError>
-    ensures { WorkGrows work.old work.new }
+/// Puts the value of a variable or a field.
+fn put_name<S: Sink>(sink: &mut S, name: &Name) -> Result<Reading, CompileError>
+    ensures laid { S.judges → IfOk result (λ r. NameLaid (S.laying sink.old) (S.place sink.old) name.now.items r
+        (S.place sink.new)) }
+    ensures same { S.laying sink.new ≡ S.laying sink.old }
 {
-    let Reading { instr, kind } = reading_of(shape, work, variable)?;
-    work.block.put(instr)?;
-    work.gets.push(Get {
-        variable: copy_of_name(variable),
-        line,
-    })?;
-    Ok(kind)
+    let reading = reading_of(sink, name)?;
+    sink.put(reading.instr)?;
+    Ok(reading)
 }
 
 /// `@ row,column GET variable`.
-pub fn get(
-    shape: &Shape,
-    out: &mut Output,
-    work: &mut Work,
-    line: usize,
+pub fn get<S: Sink>(
+    sink: &mut S,
     row: &Expr,
     column: &Expr,
     variable: &Name,
 ) -> Result<(), CompileError>
-    ensures { Grown out.old work.old out.new work.new }
+    ensures laid { S.judges → OnOk result (acts.Got (S.laying sink.old) (S.place sink.old) (tree_of row.now)
+        (tree_of column.now) variable.now.items (S.place sink.new)) }
+    ensures same { S.laying sink.new ≡ S.laying sink.old }
 {
-    let row = value(shape, out, work, row)?;
-    let column = value(shape, out, work, column)?;
-    let kind = put_get(shape, work, line, variable)?;
+    let row = sink.value(row)?;
+    let column = sink.value(column)?;
+    let Reading { kind, .. } = put_name(sink, variable)?;
     demand(row, Kind::Number)?;
     demand(column, Kind::Number)?;
-    put_screen(work, ScreenInstr::Say(kind))
+    put_screen(sink, ScreenInstr::Say(kind))
 }
 
 /// The `GET variable` behind a SAY.
-pub fn get_on(
-    shape: &Shape,
-    work: &mut Work,
-    line: usize,
-    variable: &Name,
-) -> Result<(), CompileError>
-    ensures { WorkGrows work.old work.new }
+fn get_on<S: Sink>(sink: &mut S, variable: &Name) -> Result<(), CompileError>
+    ensures laid { S.judges → OnOk result (acts.GotOn (S.laying sink.old) (S.place sink.old) variable.now.items
+        (S.place sink.new)) }
+    ensures same { S.laying sink.new ≡ S.laying sink.old }
 {
-    let kind = put_get(shape, work, line, variable)?;
-    put_screen(work, ScreenInstr::SayOn(kind))
+    let Reading { kind, .. } = put_name(sink, variable)?;
+    put_screen(sink, ScreenInstr::SayOn(kind))
 }
 
-/// Takes a line for one GET.
-fn read_one(shape: &Shape, work: &mut Work, name: &Name) -> Result<(), CompileError>
-    ensures { WorkGrows work.old work.new }
+/// `@ row,column SAY value GET variable`.
+pub fn say_and_get<S: Sink>(
+    sink: &mut S,
+    row: &Expr,
+    column: &Expr,
+    e: &Expr,
+    variable: &Name,
+) -> Result<(), CompileError>
+    ensures laid { S.judges → OnOk result (acts.SaidAndGot (S.laying sink.old) (S.place sink.old) (tree_of row.now)
+        (tree_of column.now) (tree_of e.now) variable.now.items (S.place sink.new)) }
+    ensures same { S.laying sink.new ≡ S.laying sink.old }
 {
-    let Reading { instr, kind } = reading_of(shape, work, name)?;
-    work.block.put(instr)?;
-    put_screen(work, ScreenInstr::Input(kind))?;
+    say(sink, row, column, e)?;
+    get_on(sink, variable)
+}
+
+/// The instruction that takes a value of this kind to where another instruction reads it.
+fn kept(instr: Instr, kind: Kind) -> Option<Instr>
+    ensures { result ≡ acts.kept instr kind }
+{
     match instr {
-        Instr::Values(ValueInstr::Load(_, slot)) => put_value(work, ValueInstr::Store(kind, slot)),
-        Instr::Records(RecordInstr::Field { field, .. }) => {
-            work.block.put(Instr::Records(RecordInstr::Replace(field)))
+        Instr::Values(ValueInstr::Load(_, slot)) => {
+            Some(Instr::Values(ValueInstr::Store(kind, slot)))
         }
-        _ => Ok(()),
+        Instr::Records(RecordInstr::Field { field, .. }) => {
+            Some(Instr::Records(RecordInstr::Replace(field)))
+        }
+        _ => None,
     }
 }
 
-/// `READ`.
-pub fn read(shape: &Shape, work: &mut Work) -> Result<(), CompileError>
-    ensures { WorkGrows work.old work.new }
+/// Takes a line for one GET.
+fn read_one<S: Sink>(sink: &mut S, name: &Name) -> Result<(), CompileError>
+    ensures laid { S.judges → OnOk result (acts.TakenOne (S.laying sink.old) (S.place sink.old) name.now.items
+        (S.place sink.new)) }
+    ensures same { S.laying sink.new ≡ S.laying sink.old }
 {
-    let gets = std::mem::replace(&mut work.gets, Vec::new(work.alloc));
-    read_all(shape, work, &gets)
+    let Reading { instr, kind } = put_name(sink, name)?;
+    put_screen(sink, ScreenInstr::Input(kind))?;
+    let Some(keeps) = kept(instr, kind) else {
+        return Err(CompileError::Fault(CompileFaultKind::Name));
+    };
+    sink.put(keeps)
 }
 
-/// Takes a line for each GET.
-fn read_all(shape: &Shape, work: &mut Work, gets: &[Get]) -> Result<(), CompileError>
-    ensures { WorkGrows work.old work.new }
+/// `READ`, for which these GETs wait.
+pub fn read<S: Sink>(sink: &mut S, gets: &[Get]) -> Result<(), CompileError>
+    ensures laid { S.judges → OnOk result (acts.ReadLaid (S.laying sink.old) (S.place sink.old)
+        (acts.names_of gets.now) (S.place sink.new)) }
+    ensures same { S.laying sink.new ≡ S.laying sink.old }
 {
-    for get in gets {
-        read_one(shape, work, &get.variable)?;
+    let mut rest = gets;
+    while let Some((get, others)) = rest.split_first() {
+        read_one(sink, &get.variable)?;
+        rest = others;
     }
     Ok(())
 }
 
 /// Shows the prompt, if there is one.
-fn show_prompt(
-    shape: &Shape,
-    out: &mut Output,
-    work: &mut Work,
-    prompt: &Option<Expr>,
-) -> Result<(), CompileError>
-    ensures { Grown out.old work.old out.new work.new }
-{
-    let Some(e) = prompt else {
-        return Ok(());
-    };
-    value_of_kind(shape, out, work, e, Kind::Text)?;
-    put_screen(work, ScreenInstr::Print(Kind::Text))
-}
-
-/// Puts the text that is shown while a key is awaited.
-fn put_prompt(
-    shape: &Shape,
-    out: &mut Output,
-    work: &mut Work,
-    prompt: &Option<Expr>,
-) -> Result<(), CompileError>
-    ensures { Grown out.old work.old out.new work.new }
+fn show_prompt<S: Sink>(sink: &mut S, prompt: &Option<Expr>) -> Result<(), CompileError>
+    ensures laid { S.judges → OnOk result (acts.Prompted (S.laying sink.old) (S.place sink.old)
+        (option_map tree_of prompt.now) (S.place sink.new)) }
+    ensures same { S.laying sink.new ≡ S.laying sink.old }
 {
     match prompt {
-        Some(e) => value_of_kind(shape, out, work, e, Kind::Text),
-        None => put_text(out, work, b"Press any key to continue..."),
+        Some(e) => {
+            value_of_kind(sink, e, Kind::Text)?;
+            put_screen(sink, ScreenInstr::Print(Kind::Text))
+        }
+        None => Ok(()),
     }
 }
 
 /// `ACCEPT [prompt] TO variable`.
-pub fn accept(
-    shape: &Shape,
-    out: &mut Output,
-    work: &mut Work,
+pub fn accept<S: Sink>(
+    sink: &mut S,
     prompt: &Option<Expr>,
     variable: &Name,
 ) -> Result<(), CompileError>
-    ensures { Grown out.old work.old out.new work.new }
+    ensures laid { S.judges → OnOk result (acts.AcceptLaid (S.laying sink.old) (S.place sink.old)
+        (option_map tree_of prompt.now) variable.now.items (S.place sink.new)) }
+    ensures same { S.laying sink.new ≡ S.laying sink.old }
 {
-    put_screen(work, ScreenInstr::NewLine)?;
-    show_prompt(shape, out, work, prompt)?;
-    put_screen(work, ScreenInstr::Line)?;
-    put_store(out, work, variable, Kind::Text)?;
-    Ok(())
+    put_screen(sink, ScreenInstr::NewLine)?;
+    show_prompt(sink, prompt)?;
+    put_screen(sink, ScreenInstr::Line)?;
+    put_store(sink, variable, Kind::Text)
 }
 
-/// `WAIT [prompt] [TO variable]`.
-pub fn wait(
-    shape: &Shape,
-    out: &mut Output,
-    work: &mut Work,
-    prompt: &Option<Expr>,
-    variable: &Option<Name>,
-) -> Result<(), CompileError>
-    ensures { Grown out.old work.old out.new work.new }
+/// Puts the text that is shown while a key is awaited.
+fn put_prompt<S: Sink>(sink: &mut S, prompt: &Option<Expr>) -> Result<(), CompileError>
+    ensures laid { S.judges → OnOk result (acts.Asked (S.laying sink.old) (S.place sink.old)
+        (option_map tree_of prompt.now) (S.place sink.new)) }
+    ensures same { S.laying sink.new ≡ S.laying sink.old }
 {
-    put_screen(work, ScreenInstr::NewLine)?;
-    put_prompt(shape, out, work, prompt)?;
-    put_screen(work, ScreenInstr::Print(Kind::Text))?;
-    put_screen(work, ScreenInstr::Line)?;
-    match variable {
-        Some(name) => store_key(out, work, name),
-        None => put_value(work, ValueInstr::Discard(Kind::Text)),
+    match prompt {
+        Some(e) => value_of_kind(sink, e, Kind::Text),
+        None => sink.constant(Value::Text(text_from(b"Press any key to continue..."))),
     }
 }
 
-/// Takes the first letter of the operator's line into the variable.
-fn store_key(out: &mut Output, work: &mut Work, name: &Name) -> Result<(), CompileError>
-    ensures { Grown out.old work.old out.new work.new }
+/// Takes the first letter of the operator's line into the variable, if there is one.
+fn take_key<S: Sink>(sink: &mut S, variable: &Option<Name>) -> Result<(), CompileError>
+    ensures laid { S.judges → OnOk result (acts.KeyTaken (S.laying sink.old) (S.place sink.old)
+        (option_map letters_of variable.now) (S.place sink.new)) }
+    ensures same { S.laying sink.new ≡ S.laying sink.old }
 {
-    put_one(out, work)?;
-    put_value(work, ValueInstr::Function(Fun::ToText(TextFun::Left)))?;
-    put_store(out, work, name, Kind::Text)?;
-    Ok(())
+    match variable {
+        Some(name) => {
+            put_one(sink)?;
+            put_value(sink, ValueInstr::Function(Fun::ToText(TextFun::Left)))?;
+            put_store(sink, name, Kind::Text)
+        }
+        None => put_value(sink, ValueInstr::Discard(Kind::Text)),
+    }
+}
+
+/// `WAIT [prompt] [TO variable]`.
+pub fn wait<S: Sink>(
+    sink: &mut S,
+    prompt: &Option<Expr>,
+    variable: &Option<Name>,
+) -> Result<(), CompileError>
+    ensures laid { S.judges → OnOk result (acts.Waited (S.laying sink.old) (S.place sink.old)
+        (option_map tree_of prompt.now) (option_map letters_of variable.now) (S.place sink.new)) }
+    ensures same { S.laying sink.new ≡ S.laying sink.old }
+{
+    put_screen(sink, ScreenInstr::NewLine)?;
+    put_prompt(sink, prompt)?;
+    put_screen(sink, ScreenInstr::Print(Kind::Text))?;
+    put_screen(sink, ScreenInstr::Line)?;
+    take_key(sink, variable)
 }

@@ -1,183 +1,101 @@
 //! Commands on variables.
 
-ghost use Rattle.std.specs.Prelude.{◌≡◌, ◌+◌, [], ◌∷◌, ℕ, List, false, IfOk, OnOk, Some, map};
-ghost use Rattle.code_items.specs.declared.instr.ValueInstr.TheVariants as value_instr;
-ghost use Rattle.code_items.specs.declared.instr.Instr.TheVariants.{Values};
+ghost use Rattle.std.specs.Prelude.{◌≡◌, IfOk, OnOk, Some, map};
 ghost use Rattle.prg_code.specs.Bindings.{slot_named};
-ghost use Rattle.prg_code.specs.Growth.{OutputGrows, Grown, WorkGrows, Puts};
-ghost use Rattle.prg_line.specs.Act.{letters_of};
+ghost use Rattle.prg_commands.specs.Acts as acts;
 ghost use Rattle.prg_expr.specs.Tree.{tree_of};
-ghost use Rattle.prg_values.specs.Readings.{scoped, FindsReading};
-ghost use Rattle.prg_commands.specs.Commands.{scope_at, AreSlots, unsets};
-ghost use Rattle.prg_commands.specs.Arguments.{by_reference, named_reference, qualified_reference};
+ghost use Rattle.prg_line.specs.Act.{letters_of};
 
-use crate::values::{scope_of, value};
-use code_items::{Instr, Name, Shape, ValueInstr};
-use prg_code::{CompileError, CompileFaultKind, Output, Variable, Work};
-use prg_expr::{AliasedName, Expr};
-use prg_values::{Scope, selected_field, variable_slot};
+use crate::sink::Sink;
+use crate::values::put_value;
+use code_items::{Name, ValueInstr};
+use prg_code::{CompileError, CompileFaultKind};
+use prg_expr::Expr;
+use prg_line::Toggle;
+use prg_values::setting_of;
 use xvalue::Kind;
 
-/// The most slots of a code.
-const MOST_SLOTS: u16 = 256;
-
-/// A slot that wasn't given out before. Limit where there is none.
-pub fn new_slot(out: &mut Output) -> Result<u8, CompileError>
-    ensures next { IfOk result (λ slot. slot ≡ out.old.slots) }
-    ensures given { OnOk result (out.new.slots ≡ out.old.slots + 1) }
-    ensures grown { OutputGrows out.old out.new }
-{
-    let slot = out.slots;
-    if slot >= MOST_SLOTS {
-        return Err(CompileError::Fault(CompileFaultKind::Limit));
-    }
-    match u8::try_from(slot) {
-        Ok(number) => {
-            out.slots = slot + 1;
-            Ok(number)
-        }
-        Err(_) => Err(CompileError::Fault(CompileFaultKind::Limit)),
-    }
-}
-
-/// The slot of a variable that is set: a new one of the procedure's own where there is no such variable.
-pub(crate) fn bound_slot(out: &mut Output, work: &mut Work, name: &Name) -> Result<u8, CompileError>
-    ensures named { IfOk result (λ slot. slot_named work.new.names name.now.items ≡ Some slot) }
-    ensures block { work.new.block ≡ work.old.block }
-    ensures grown { Grown out.old work.old out.new work.new }
-{
-    if let Some(slot) = work.names.slot(name) {
-        return Ok(slot);
-    }
-    let slot = new_slot(out)?;
-    work.own.push(slot)?;
-    work.names.set(name, Variable { slot, own: true })?;
-    Ok(slot)
-}
-
 /// Takes the value on top into the variable.
-pub fn put_store(
-    out: &mut Output,
-    work: &mut Work,
-    name: &Name,
-    kind: Kind,
-) -> Result<u8, CompileError>
-    ensures put { IfOk result (λ slot. (slot_named work.new.names name.now.items ≡ Some slot)
-        × Puts (Values (value_instr.Store kind slot) ∷ []) work.old.block work.new.block) }
-    ensures grown { Grown out.old work.old out.new work.new }
+pub(crate) fn put_store<S: Sink>(sink: &mut S, name: &Name, kind: Kind) -> Result<(), CompileError>
+    ensures laid { S.judges → OnOk result (acts.Stored (S.laying sink.old) (S.place sink.old) name.now.items kind
+        (S.place sink.new)) }
+    ensures same { S.laying sink.new ≡ S.laying sink.old }
 {
-    let slot = bound_slot(out, work, name)?;
-    work.block
-        .put(Instr::Values(ValueInstr::Store(kind, u16::from(slot))))?;
-    Ok(slot)
+    let slot = sink.slot(name)?;
+    put_value(sink, ValueInstr::Store(kind, u16::from(slot)))
 }
 
 /// `variable = value`.
-pub fn assign(
-    shape: &Shape,
-    out: &mut Output,
-    work: &mut Work,
-    name: &Name,
-    e: &Expr,
-) -> Result<(), CompileError>
-    ensures { Grown out.old work.old out.new work.new }
+pub fn assign<S: Sink>(sink: &mut S, name: &Name, e: &Expr) -> Result<(), CompileError>
+    ensures laid { S.judges → OnOk result (acts.Assigned (S.laying sink.old) (S.place sink.old) name.now.items
+        (tree_of e.now) (S.place sink.new)) }
+    ensures same { S.laying sink.new ≡ S.laying sink.old }
 {
-    let kind = value(shape, out, work, e)?;
-    put_store(out, work, name, kind)?;
+    let kind = sink.value(e)?;
+    put_store(sink, name, kind)
+}
+
+/// Each further variable gets the value of the slot.
+fn copy_to<S: Sink>(sink: &mut S, kind: Kind, slot: u8, names: &[Name]) -> Result<(), CompileError>
+    ensures laid { S.judges → OnOk result (acts.Copied (S.laying sink.old) (S.place sink.old) kind slot
+        (map letters_of names.now) (S.place sink.new)) }
+    ensures same { S.laying sink.new ≡ S.laying sink.old }
+{
+    let mut rest = names;
+    while let Some((name, others)) = rest.split_first() {
+        put_value(sink, ValueInstr::Load(kind, u16::from(slot)))?;
+        put_store(sink, name, kind)?;
+        rest = others;
+    }
     Ok(())
 }
 
 /// `STORE value TO variables`: each further variable gets the first one's value.
-pub fn store(
-    shape: &Shape,
-    out: &mut Output,
-    work: &mut Work,
-    e: &Expr,
-    names: &[Name],
-) -> Result<(), CompileError>
-    ensures { Grown out.old work.old out.new work.new }
+pub fn store<S: Sink>(sink: &mut S, e: &Expr, names: &[Name]) -> Result<(), CompileError>
+    ensures laid { S.judges → OnOk result (acts.StoredAll (S.laying sink.old) (S.place sink.old) (tree_of e.now)
+        (map letters_of names.now) (S.place sink.new)) }
+    ensures same { S.laying sink.new ≡ S.laying sink.old }
 {
-    let kind = value(shape, out, work, e)?;
+    let kind = sink.value(e)?;
     let Some((first, others)) = names.split_first() else {
-        return Ok(());
+        return Err(CompileError::Fault(CompileFaultKind::Name));
     };
-    let slot = put_store(out, work, first, kind)?;
-    for name in others {
-        work.block
-            .put(Instr::Values(ValueInstr::Load(kind, u16::from(slot))))?;
-        put_store(out, work, name, kind)?;
+    let slot = sink.slot(first)?;
+    put_value(sink, ValueInstr::Store(kind, u16::from(slot)))?;
+    copy_to(sink, kind, slot, others)
+}
+
+/// The slot of a variable that is there: Name where there is none.
+fn slot_of<S: Sink>(sink: &S, name: &Name) -> Result<u8, CompileError>
+    ensures { S.judges → IfOk result (λ slot. slot_named (S.laying sink.now).names name.now.items ≡ Some slot) }
+{
+    let scope = sink.scope()?;
+    match scope.names.slot(name) {
+        Some(slot) => Ok(slot),
+        None => Err(CompileError::Fault(CompileFaultKind::Name)),
     }
-    Ok(())
 }
 
 /// `RELEASE variables`.
-pub fn release(work: &mut Work, names: &[Name]) -> Result<(), CompileError>
-    ensures put { OnOk result ((slots : List ℕ) × AreSlots work.old.names (map letters_of names.now) slots
-        × Puts (unsets slots) work.old.block work.new.block) }
-    ensures grown { WorkGrows work.old work.new }
+pub fn release<S: Sink>(sink: &mut S, names: &[Name]) -> Result<(), CompileError>
+    ensures laid { S.judges → OnOk result (acts.Released (S.laying sink.old) (S.place sink.old)
+        (map letters_of names.now) (S.place sink.new)) }
+    ensures same { S.laying sink.new ≡ S.laying sink.old }
 {
-    for name in names {
-        let Some(slot) = work.names.slot(name) else {
-            return Err(CompileError::Fault(CompileFaultKind::Name));
-        };
-        work.block
-            .put(Instr::Values(ValueInstr::Unset(u16::from(slot))))?;
+    let mut rest = names;
+    while let Some((name, others)) = rest.split_first() {
+        let slot = slot_of(sink, name)?;
+        put_value(sink, ValueInstr::Unset(u16::from(slot)))?;
+        rest = others;
     }
     Ok(())
 }
 
-/// `PRIVATE variables`: the caller's variables of these names aren't seen from here on.
-pub fn hide(work: &mut Work, names: &[Name])
-    ensures none { work.new.block ≡ work.old.block }
-    ensures grown { WorkGrows work.old work.new }
+/// `SET setting ON` or `OFF`.
+pub fn set<S: Sink>(sink: &mut S, toggle: Toggle, on: bool) -> Result<(), CompileError>
+    ensures laid { S.judges → OnOk result (acts.IsSet (S.laying sink.old) (S.place sink.old) toggle on
+        (S.place sink.new)) }
+    ensures same { S.laying sink.new ≡ S.laying sink.old }
 {
-    if work.is_main {
-        return;
-    }
-    for name in names {
-        work.names.hide(name);
-    }
-}
-
-/// The slot of an argument that is handed over by reference: a name alone that is no field, or one behind `M->`. None
-/// of any other expression, which is handed over by value.
-#[tactic(auto, using(prg_expr::proofs::Equations::tree_equations))]
-pub fn argument_slot(shape: &Shape, work: &Work, e: &Expr) -> Result<Option<u8>, CompileFaultKind>
-    ensures { FindsReading result (by_reference (scope_at shape.now work.now false) (tree_of e.now)) }
-{
-    let scope = scope_of(shape, work);
-    match e {
-        Expr::Name(name) => named_slot(&scope, name),
-        Expr::Qualified(aliased) => {
-            let AliasedName { alias, name } = &**aliased;
-            qualified_slot(&scope, alias.as_slice(), name)
-        }
-        Expr::Number(_) => Ok(None),
-        Expr::Text(_) => Ok(None),
-        Expr::Logical(_) => Ok(None),
-        Expr::Call(_, _) => Ok(None),
-        Expr::Parentheses(_) => Ok(None),
-        Expr::Prefixed(_, _) => Ok(None),
-        Expr::Binary(_, _, _) => Ok(None),
-    }
-}
-
-/// The slot of a name alone, if that is no field.
-fn named_slot(scope: &Scope, name: &Name) -> Result<Option<u8>, CompileFaultKind>
-    ensures { FindsReading result (named_reference (scoped scope.now) name.now.items) }
-{
-    match selected_field(scope, name.as_slice())? {
-        Some(_) => Ok(None),
-        None => Ok(Some(variable_slot(scope, name)?)),
-    }
-}
-
-/// The slot of a name behind an alias, if that is `M`.
-fn qualified_slot(scope: &Scope, alias: &[u8], name: &Name) -> Result<Option<u8>, CompileFaultKind>
-    ensures { FindsReading result (qualified_reference (scoped scope.now) alias.now name.now.items) }
-{
-    if alias == b"M".as_slice() {
-        return Ok(Some(variable_slot(scope, name)?));
-    }
-    Ok(None)
+    put_value(sink, ValueInstr::Set(setting_of(toggle), on))
 }

@@ -24,14 +24,14 @@ const MAIN: Target = Target {
 };
 
 /// The main procedure as the first copy, of which nothing is written yet.
-fn begun(alloc: Global, programs: &[Program]) -> Result<Writer, AllocError> {
+fn begun<'a>(alloc: Global, programs: &[Program], shape: &'a Shape) -> Result<Writer<'a>, AllocError> {
     let procedures = NamedProcedures::of(alloc, programs)?;
     let block = DraftBlock::main(alloc)?;
     let work = Work::new(alloc, 0, true, block, Names::new(alloc));
-    with_main(Writer::new(alloc, work, procedures))
+    with_main(Writer::new(alloc, shape, work, procedures))
 }
 
-fn with_main(w: Writer) -> Result<Writer, AllocError> {
+fn with_main<'a>(w: Writer<'a>) -> Result<Writer<'a>, AllocError> {
     let mut w = w;
     let names = Names::new(w.alloc);
     w.open_copy(MAIN, names)?;
@@ -179,7 +179,7 @@ pub fn compile(
     // A single file without procedures is laid out as its commands say.
     ensures laid { IfOk result (λ verified. IsLaidAlone verified programs.now) }
 {
-    let mut w = begun(alloc, programs)?;
+    let mut w = begun(alloc, programs, shape)?;
     write_main(&mut w, &Source { programs, shape })?;
     finished(alloc, all_written(w), programs, shape)
 }
@@ -204,7 +204,7 @@ fn further(
     source: &Source,
     told: CompileFault,
 ) -> Result<Vec<CompileFault>, CompileRefusal> {
-    let mut w = begun(alloc, source.programs)?;
+    let mut w = begun(alloc, source.programs, source.shape)?;
     w.listed = Some(FaultList::behind(alloc, told)?);
     write_main(&mut w, source)?;
     Ok(listed(w))
@@ -276,7 +276,7 @@ pub fn areas_at_fault(
     // Tables go by the names that are declared.
     ensures told { IfOk result (λ found. IfSome found (AreasOfShape shape.now)) }
 {
-    let mut w = begun(alloc, programs)?;
+    let mut w = begun(alloc, programs, shape)?;
     areas_written_to(&mut w, &Source { programs, shape })
 }
 

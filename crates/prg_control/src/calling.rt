@@ -1,9 +1,7 @@
 //! Calls of procedures, and the copies that are written for them.
 
-ghost use Rattle.std.specs.Prelude.{◌≡◌, length, IfOk, IfSome, OnOk};
-ghost use Rattle.prg_code.specs.declared.work.Output.{Output as AnyOutput};
-ghost use Rattle.prg_code.specs.Growth.{BlockBegins, OutputGrows};
-ghost use Rattle.prg_control.specs.Begun.{IsBodyBehind};
+ghost use Rattle.std.specs.Prelude.{◌≡◌, length, IfOk, OnOk};
+ghost use Rattle.prg_code.specs.Growth.{BlockBegins};
 ghost use Rattle.prg_control.specs.Naming.{SeesParameters};
 
 use crate::body::{Behind, Body};
@@ -13,9 +11,9 @@ use prg_code::{
     CompileError, CompileFaultKind, CompileRefusal, DraftBlock, Names, Variable, Work,
     is_state_same,
 };
-use prg_commands::{argument_slot, new_slot, value};
+use prg_commands::Sink;
 use prg_parser::{Expr, Program};
-use prg_writer::{ProcedureCopy, Source, Target, Writer, parameters};
+use prg_writer::{ProcedureCopy, Source, Target, Writer, argument_slot, new_slot, parameters};
 use std::alloc::AllocError;
 
 /// The most procedures of a code, copies counted.
@@ -91,14 +89,12 @@ struct Handed {
 }
 
 /// Hands an argument over, and gives its slot.
-fn hand_over(s: &Source, w: &mut Writer, handed: &mut Handed, e: &Expr) -> Result<(), CompileError>
-    ensures grown { OutputGrows w.old.out w.new.out }
-{
-    if let Some(slot) = argument_slot(s.shape, &w.work, e)? {
+fn hand_over(w: &mut Writer, handed: &mut Handed, e: &Expr) -> Result<(), CompileError> {
+    if let Some(slot) = argument_slot(w, e)? {
         handed.slots.push(slot)?;
         return Ok(());
     }
-    let kind = value(s.shape, &mut w.out, &mut w.work, e)?;
+    let kind = w.value(e)?;
     let slot = new_slot(&mut w.out)?;
     w.work
         .block
@@ -109,15 +105,13 @@ fn hand_over(s: &Source, w: &mut Writer, handed: &mut Handed, e: &Expr) -> Resul
 }
 
 /// Hands the arguments over.
-fn hand_all_over(s: &Source, w: &mut Writer, es: &[Expr]) -> Result<Handed, CompileError>
-    ensures grown { OutputGrows w.old.out w.new.out }
-{
+fn hand_all_over(w: &mut Writer, es: &[Expr]) -> Result<Handed, CompileError> {
     let mut handed = Handed {
         slots: Vec::new(w.alloc),
         own: Vec::new(w.alloc),
     };
     for e in es {
-        hand_over(s, w, &mut handed, e)?;
+        hand_over(w, &mut handed, e)?;
     }
     Ok(handed)
 }
@@ -206,9 +200,7 @@ fn begin_copy(
     target: Target,
     names: Names,
     own: Vec<u8>,
-) -> Result<Work, AllocError>
-    ensures same { w.new.out ≡ w.old.out }
-{
+) -> Result<Work, AllocError> {
     let work = with_own(work_from_here(w, target, &names)?, own);
     w.open_copy(target, names)?;
     Ok(w.begin(work))
@@ -251,9 +243,7 @@ pub fn close_copy(copies: &mut Vec<ProcedureCopy>, number: usize, work: Work) ->
 }
 
 /// Ends the copy of this number, and goes on with the one that was being written before.
-fn end_copy(w: &mut Writer, number: usize, before: Work)
-    ensures same { w.new.out ≡ w.old.out }
-{
+fn end_copy(w: &mut Writer, number: usize, before: Work) {
     let work = w.begin(before);
     let _ = w.active.pop();
     let _ = close_copy(&mut w.copies, number, work);
@@ -275,9 +265,7 @@ fn level_of(w: &Writer, number: usize) -> u8 {
 }
 
 /// Puts the CALL. Limit where the calls within it are too many together with those around it.
-fn put_call(w: &mut Writer, number: usize) -> Result<(), CompileError>
-    ensures same { w.new.out ≡ w.old.out }
-{
+fn put_call(w: &mut Writer, number: usize) -> Result<(), CompileError> {
     let level = level_of(w, number);
     if w.active.len().saturating_add(usize::from(level)) > MOST_CALLS {
         return Err(CompileError::Fault(CompileFaultKind::Limit));
@@ -299,10 +287,8 @@ fn handed_to(
     w: &mut Writer,
     target: Target,
     arguments: &[Expr],
-) -> Result<(Names, Vec<u8>), CompileError>
-    ensures grown { OutputGrows w.old.out w.new.out }
-{
-    let Handed { slots, own } = hand_all_over(s, w, arguments)?;
+) -> Result<(Names, Vec<u8>), CompileError> {
+    let Handed { slots, own } = hand_all_over(w, arguments)?;
     let (variables, _) = parameters(s.commands(target));
     let names = names_in(w, variables, &slots)?;
     Ok((names, own))
@@ -310,9 +296,7 @@ fn handed_to(
 
 /// The number of a copy that is to be begun. None where there is one for these names and what is known here: the call
 /// is put.
-fn new_copy(w: &mut Writer, target: Target, names: &Names) -> Result<Option<usize>, CompileError>
-    ensures same { w.new.out ≡ w.old.out }
-{
+fn new_copy(w: &mut Writer, target: Target, names: &Names) -> Result<Option<usize>, CompileError> {
     match copy_for(w, target, names) {
         Some(number) => {
             put_call(w, number)?;
@@ -329,9 +313,7 @@ fn called(
     w: &mut Writer,
     target: Target,
     arguments: &[Expr],
-) -> Result<Option<(usize, Work)>, CompileError>
-    ensures grown { OutputGrows w.old.out w.new.out }
-{
+) -> Result<Option<(usize, Work)>, CompileError> {
     let (names, own) = handed_to(s, w, target, arguments)?;
     match new_copy(w, target, &names)? {
         Some(number) => Ok(Some((number, begin_copy(w, target, names, own)?))),
@@ -346,10 +328,7 @@ pub fn open_call<'a>(
     line: usize,
     procedure: &Name,
     arguments: &[Expr],
-) -> Result<Option<Body<'a>>, CompileRefusal>
-    ensures grown { OutputGrows w.old.out w.new.out }
-    ensures behind { (base : AnyOutput) → IfOk result (λ body. IfSome body (IsBodyBehind base)) }
-{
+) -> Result<Option<Body<'a>>, CompileRefusal> {
     let result = target_of(s, w, procedure, arguments.len());
     let target = w.told(line, result)?;
     let result = called(s, w, target, arguments);
@@ -371,16 +350,12 @@ pub fn open_call<'a>(
 }
 
 /// Ends the copy, and puts the call.
-pub fn end_call(w: &mut Writer, copy: OpenCopy) -> Result<(), CompileRefusal>
-    ensures same { w.new.out ≡ w.old.out }
-{
+pub fn end_call(w: &mut Writer, copy: OpenCopy) -> Result<(), CompileRefusal> {
     end_procedure(w, copy.last)?;
     put_copy(w, copy)
 }
 
-fn put_copy(w: &mut Writer, copy: OpenCopy) -> Result<(), CompileRefusal>
-    ensures same { w.new.out ≡ w.old.out }
-{
+fn put_copy(w: &mut Writer, copy: OpenCopy) -> Result<(), CompileRefusal> {
     let OpenCopy {
         line,
         number,

@@ -1,16 +1,11 @@
 //! IF and DO CASE.
 
-ghost use Rattle.std.specs.Prelude.{◌≡◌, IfOk, IfSome};
-ghost use Rattle.prg_code.specs.declared.work.Output.{Output as AnyOutput};
-ghost use Rattle.prg_code.specs.Growth.{OutputGrows};
-ghost use Rattle.prg_control.specs.Begun.{IsBodyBehind};
-
 use crate::body::{Behind, Body};
 use crate::steps::{LeapLabels, Span, jump, new_label, place, put_condition};
 use prg_code::CompileRefusal;
 use prg_expr::Expr;
 use prg_parser::{Branch, Case, Command};
-use prg_writer::{Source, Writer};
+use prg_writer::Writer;
 
 /// An IF or a DO CASE of which a part is written.
 #[derive(Clone, Copy)]
@@ -52,17 +47,13 @@ impl Choice<'_> {
 
 /// Begins an IF.
 pub fn open_if<'a>(
-    s: &Source,
     w: &mut Writer,
     leaps: Option<LeapLabels>,
     span: Span,
     condition: &'a Expr,
     then: &'a [Command],
     otherwise: &'a Option<Branch>,
-) -> Result<Option<Body<'a>>, CompileRefusal>
-    ensures grown { OutputGrows w.old.out w.new.out }
-    ensures behind { (base : AnyOutput) → IfOk result (λ body. IfSome body (IsBodyBehind base)) }
-{
+) -> Result<Option<Body<'a>>, CompileRefusal> {
     let Span { first, end } = span;
     let out = match otherwise {
         Some(_) => Some(new_label(w, end)?),
@@ -80,21 +71,17 @@ pub fn open_if<'a>(
         condition,
         body: then,
     };
-    Ok(Some(open_part(s, w, choice, part)?))
+    Ok(Some(open_part(w, choice, part)?))
 }
 
 /// Begins a DO CASE that ends in this line. None where it has no part.
 pub fn open_do_case<'a>(
-    s: &Source,
     w: &mut Writer,
     leaps: Option<LeapLabels>,
     cases: &'a [Case],
     otherwise: &'a Option<Branch>,
     end: usize,
-) -> Result<Option<Body<'a>>, CompileRefusal>
-    ensures grown { OutputGrows w.old.out w.new.out }
-    ensures behind { (base : AnyOutput) → IfOk result (λ body. IfSome body (IsBodyBehind base)) }
-{
+) -> Result<Option<Body<'a>>, CompileRefusal> {
     let out = new_label(w, end)?;
     let choice = Choice {
         cases,
@@ -103,21 +90,17 @@ pub fn open_do_case<'a>(
         out: Some(out),
         leaps,
     };
-    next_part(s, w, choice)
+    next_part(w, choice)
 }
 
 /// Puts a part's condition.
 fn open_part<'a>(
-    s: &Source,
     w: &mut Writer,
     choice: Choice<'a>,
     part: Part<'a>,
-) -> Result<Body<'a>, CompileRefusal>
-    ensures grown { OutputGrows w.old.out w.new.out }
-    ensures behind { (base : AnyOutput) → IfOk result (IsBodyBehind base) }
-{
+) -> Result<Body<'a>, CompileRefusal> {
     let other = new_label(w, part.line)?;
-    put_condition(s, w, part.line, part.condition, other)?;
+    put_condition(w, part.line, part.condition, other)?;
     Ok(Body {
         list: part.body,
         end: Some(choice.next_line()),
@@ -127,21 +110,14 @@ fn open_part<'a>(
 }
 
 /// Begins the next part of the choice. Behind the last one, the choice ends.
-fn next_part<'a>(
-    s: &Source,
-    w: &mut Writer,
-    choice: Choice<'a>,
-) -> Result<Option<Body<'a>>, CompileRefusal>
-    ensures grown { OutputGrows w.old.out w.new.out }
-    ensures behind { (base : AnyOutput) → IfOk result (λ body. IfSome body (IsBodyBehind base)) }
-{
+fn next_part<'a>(w: &mut Writer, choice: Choice<'a>) -> Result<Option<Body<'a>>, CompileRefusal> {
     if let Some((case, cases)) = choice.cases.split_first() {
         let part = Part {
             line: case.line,
             condition: &case.condition,
             body: &case.body,
         };
-        return Ok(Some(open_part(s, w, Choice { cases, ..choice }, part)?));
+        return Ok(Some(open_part(w, Choice { cases, ..choice }, part)?));
     }
     let Some(branch) = choice.otherwise else {
         end_choice(w, choice)?;
@@ -157,27 +133,21 @@ fn next_part<'a>(
 
 /// Ends a part with a condition, and begins the next one.
 pub fn end_part<'a>(
-    s: &Source,
     w: &mut Writer,
     choice: Choice<'a>,
     other: usize,
-) -> Result<Option<Body<'a>>, CompileRefusal>
-    ensures grown { OutputGrows w.old.out w.new.out }
-    ensures behind { (base : AnyOutput) → IfOk result (λ body. IfSome body (IsBodyBehind base)) }
-{
+) -> Result<Option<Body<'a>>, CompileRefusal> {
     if let Some(out) = choice.out
         && !choice.is_over()
     {
         jump(w, choice.end, out)?;
     }
     place(w, choice.end, other)?;
-    next_part(s, w, choice)
+    next_part(w, choice)
 }
 
 /// Ends the choice.
-pub fn end_choice(w: &mut Writer, choice: Choice) -> Result<(), CompileRefusal>
-    ensures same { w.new.out ≡ w.old.out }
-{
+pub fn end_choice(w: &mut Writer, choice: Choice) -> Result<(), CompileRefusal> {
     match choice.out {
         Some(out) => place(w, choice.end, out),
         None => Ok(()),

@@ -3,11 +3,7 @@
 //! A command is written in pieces: what goes before the commands within it, then these, then what goes behind them,
 //! maybe up to further commands within it. The commands that are begun stand in a list, so no function calls itself.
 
-ghost use Rattle.std.specs.Prelude.{◌≡◌, All, IfOk, IfSome, None, OnOk};
-ghost use Rattle.prg_code.specs.declared.work.Output.{Output as AnyOutput};
-ghost use Rattle.prg_code.specs.Growth.{OutputGrows};
-ghost use Rattle.prg_control.specs.Begun.{IsBodyBehind, IsEndBehind, IsOpenBehind};
-ghost use Rattle.prg_writer.specs.Writing.{IsBegunBehind};
+ghost use Rattle.std.specs.Prelude.{◌≡◌, None, IfOk};
 
 use crate::body::{Behind, Body};
 use crate::calling::{end_call, open_call};
@@ -15,13 +11,14 @@ use crate::choices::{end_choice, end_part, open_do_case, open_if};
 use crate::ends::{leap, no_get_waits, put_return};
 use crate::loops::{LoopTest, end_round, open_loop};
 use crate::steps::{LeapLabels, Span};
-use prg_code::{CompileFaultKind, CompileRefusal};
-use prg_commands::{Turn, put_statement};
+use prg_code::{CompileError, CompileFaultKind, CompileRefusal};
+use prg_commands::{Turn, put_statement, turn_of, wait_for_read};
 use prg_line::Statement;
 use prg_parser::{Command, Form};
 use prg_values::may_stand_before_read;
 use prg_writer::{Begun, Source, Writer};
 use std::alloc::{AllocError, Global};
+use std::mem;
 
 /// A command that is begun.
 #[derive(Drop)]
@@ -43,18 +40,13 @@ pub fn commands<'a>(
     s: &'a Source,
     w: &mut Writer,
     list: &'a [Command],
-) -> Result<(), CompileRefusal>
-    // Also where it is refused, what all procedures have in common only grows.
-    ensures grown { OutputGrows w.old.out w.new.out }
-{
+) -> Result<(), CompileRefusal> {
     let mut nested = only(w.alloc, list)?;
     put_all(s, w, &mut nested)
 }
 
 /// A list that is begun, and nothing around it.
-fn only<'a>(alloc: Global, list: &'a [Command]) -> Result<Vec<Open<'a>>, AllocError>
-    ensures { (base : AnyOutput) → IfOk result (λ nested. All (IsOpenBehind base) nested.items) }
-{
+fn only<'a>(alloc: Global, list: &'a [Command]) -> Result<Vec<Open<'a>>, AllocError> {
     let mut nested = Vec::new(alloc);
     nested.push(Open {
         begun: None,
@@ -73,10 +65,7 @@ fn put_all<'a>(
     s: &'a Source,
     w: &mut Writer,
     nested: &mut Vec<Open<'a>>,
-) -> Result<(), CompileRefusal>
-    ensures grown { (base : AnyOutput) → OutputGrows base w.old.out → All (IsOpenBehind base) nested.old.items
-        → OutputGrows base w.new.out }
-{
+) -> Result<(), CompileRefusal> {
     for _ in 0..u64::MAX {
         let Some(innermost) = nested.pop() else {
             return Ok(());
@@ -92,12 +81,7 @@ fn go_on<'a>(
     w: &mut Writer,
     nested: &mut Vec<Open<'a>>,
     innermost: Open<'a>,
-) -> Result<(), CompileRefusal>
-    ensures grown { (base : AnyOutput) → OutputGrows base w.old.out → All (IsOpenBehind base) nested.old.items
-        → IsOpenBehind base innermost.entry → OutputGrows base w.new.out }
-    ensures behind { (base : AnyOutput) → OutputGrows base w.old.out → All (IsOpenBehind base) nested.old.items
-        → IsOpenBehind base innermost.entry → OnOk result (All (IsOpenBehind base) nested.new.items) }
-{
+) -> Result<(), CompileRefusal> {
     let list = innermost.body.list;
     match list.split_first() {
         Some((command, others)) if w.work.block.reached => {
@@ -105,7 +89,7 @@ fn go_on<'a>(
             nested.push(with_list(innermost, others))?;
             put_next(s, w, nested, leaps, command)
         }
-        _ => end(s, w, nested, innermost),
+        _ => end(w, nested, innermost),
     }
 }
 
@@ -116,12 +100,7 @@ fn put_next<'a>(
     nested: &mut Vec<Open<'a>>,
     leaps: Option<LeapLabels>,
     command: &'a Command,
-) -> Result<(), CompileRefusal>
-    ensures grown { (base : AnyOutput) → OutputGrows base w.old.out → All (IsOpenBehind base) nested.old.items
-        → OutputGrows base w.new.out }
-    ensures behind { (base : AnyOutput) → OutputGrows base w.old.out → All (IsOpenBehind base) nested.old.items
-        → OnOk result (All (IsOpenBehind base) nested.new.items) }
-{
+) -> Result<(), CompileRefusal> {
     let begun = w.begun()?;
     let outcome = opened(s, w, leaps, command);
     enter(w, nested, begun, outcome)
@@ -129,25 +108,17 @@ fn put_next<'a>(
 
 /// Ends the commands within the innermost command.
 fn end<'a>(
-    s: &'a Source,
     w: &mut Writer,
     nested: &mut Vec<Open<'a>>,
     innermost: Open<'a>,
-) -> Result<(), CompileRefusal>
-    ensures grown { (base : AnyOutput) → OutputGrows base w.old.out → All (IsOpenBehind base) nested.old.items
-        → IsOpenBehind base innermost.entry → OutputGrows base w.new.out }
-    ensures behind { (base : AnyOutput) → OutputGrows base w.old.out → All (IsOpenBehind base) nested.old.items
-        → IsOpenBehind base innermost.entry → OnOk result (All (IsOpenBehind base) nested.new.items) }
-{
+) -> Result<(), CompileRefusal> {
     let Open { begun, body } = innermost;
-    let outcome = ended(s, w, body);
+    let outcome = ended(w, body);
     enter(w, nested, begun, outcome)
 }
 
 /// The same with these commands.
-fn with_list<'a>(nested: Open<'a>, list: &'a [Command]) -> Open<'a>
-    ensures { (base : AnyOutput) → IsOpenBehind base nested.entry → IsOpenBehind base result }
-{
+fn with_list<'a>(nested: Open<'a>, list: &'a [Command]) -> Open<'a> {
     let Open { begun, body } = nested;
     let Body {
         end,
@@ -172,13 +143,7 @@ fn enter<'a>(
     nested: &mut Vec<Open<'a>>,
     begun: Option<Begun>,
     outcome: Result<Option<Body<'a>>, CompileRefusal>,
-) -> Result<(), CompileRefusal>
-    ensures grown { (base : AnyOutput) → OutputGrows base w.old.out → IfSome begun (IsBegunBehind base)
-        → OutputGrows base w.new.out }
-    ensures behind { (base : AnyOutput) → All (IsOpenBehind base) nested.old.items → IfSome begun (IsBegunBehind base)
-        → IfOk outcome.entry (λ body. IfSome body (IsBodyBehind base))
-        → OnOk result (All (IsOpenBehind base) nested.new.items) }
-{
+) -> Result<(), CompileRefusal> {
     match outcome {
         Ok(Some(body)) => push(nested, Open { begun, body }),
         Ok(None) => Ok(()),
@@ -186,10 +151,7 @@ fn enter<'a>(
     }
 }
 
-fn push<'a>(nested: &mut Vec<Open<'a>>, innermost: Open<'a>) -> Result<(), CompileRefusal>
-    ensures { (base : AnyOutput) → All (IsOpenBehind base) nested.old.items → IsOpenBehind base innermost.entry
-        → OnOk result (All (IsOpenBehind base) nested.new.items) }
-{
+fn push<'a>(nested: &mut Vec<Open<'a>>, innermost: Open<'a>) -> Result<(), CompileRefusal> {
     nested.push(innermost)?;
     Ok(())
 }
@@ -199,10 +161,7 @@ fn pass(
     w: &mut Writer,
     begun: &Option<Begun>,
     refusal: CompileRefusal,
-) -> Result<(), CompileRefusal>
-    ensures grown { (base : AnyOutput) → OutputGrows base w.old.out → IfSome begun.now (IsBegunBehind base)
-        → OutputGrows base w.new.out }
-{
+) -> Result<(), CompileRefusal> {
     w.gave_up(begun, Err(refusal))?;
     Ok(())
 }
@@ -213,11 +172,7 @@ fn opened<'a>(
     w: &mut Writer,
     leaps: Option<LeapLabels>,
     command: &'a Command,
-) -> Result<Option<Body<'a>>, CompileRefusal>
-    ensures grown { OutputGrows w.old.out w.new.out }
-    ensures behind { (base : AnyOutput) → OutputGrows base w.old.out
-        → IfOk result (λ body. IfSome body (IsBodyBehind base)) }
-{
+) -> Result<Option<Body<'a>>, CompileRefusal> {
     let line = command.line;
     w.work.block.line = line;
     may_begin(w, command)?;
@@ -228,37 +183,27 @@ fn opened<'a>(
             then,
             otherwise,
             end,
-        } => open_if(
-            s,
-            w,
-            leaps,
-            Span::of(line, *end),
-            condition,
-            then,
-            otherwise,
-        ),
+        } => open_if(w, leaps, Span::of(line, *end), condition, then, otherwise),
         Form::DoCase {
             cases,
             otherwise,
             end,
-        } => open_do_case(s, w, leaps, cases, otherwise, *end),
+        } => open_do_case(w, leaps, cases, otherwise, *end),
         Form::DoWhile {
             condition,
             body,
             end,
-        } => open_loop(s, w, Span::of(line, *end), LoopTest::While(condition), body),
+        } => open_loop(w, Span::of(line, *end), LoopTest::While(condition), body),
         Form::Scan {
             condition,
             body,
             end,
-        } => open_loop(s, w, Span::of(line, *end), LoopTest::Rows(condition), body),
+        } => open_loop(w, Span::of(line, *end), LoopTest::Rows(condition), body),
     }
 }
 
 /// Get where a READ is awaited and the command may not stand before it.
-fn may_begin(w: &mut Writer, command: &Command) -> Result<(), CompileRefusal>
-    ensures same { w.new.out ≡ w.old.out }
-{
+fn may_begin(w: &mut Writer, command: &Command) -> Result<(), CompileRefusal> {
     match &command.form {
         Form::Statement(statement) if may_stand_before_read(statement) => Ok(()),
         _ => no_get_waits(w, command.line),
@@ -272,13 +217,10 @@ fn open_statement<'a>(
     leaps: Option<LeapLabels>,
     line: usize,
     statement: &Statement,
-) -> Result<Option<Body<'a>>, CompileRefusal>
-    ensures grown { OutputGrows w.old.out w.new.out }
-    ensures behind { (base : AnyOutput) → OutputGrows base w.old.out
-        → IfOk result (λ body. IfSome body (IsBodyBehind base)) }
-{
-    let result = put_statement(s.shape, &mut w.out, &mut w.work, line, statement);
-    let Some(turn) = w.told(line, result)? else {
+) -> Result<Option<Body<'a>>, CompileRefusal> {
+    let Some(turn) = turn_of(statement) else {
+        let result = put_plain(w, line, statement);
+        w.told(line, result)?;
         return Ok(None);
     };
     let result = match turn {
@@ -292,35 +234,30 @@ fn open_statement<'a>(
     Ok(None)
 }
 
+/// Puts a command that doesn't turn the way, and remembers the GETs that wait for their READ after it.
+fn put_plain(w: &mut Writer, line: usize, statement: &Statement) -> Result<(), CompileError> {
+    let mut gets = mem::replace(&mut w.work.gets, Vec::new(w.alloc));
+    let result = put_statement(w, &gets, statement);
+    wait_for_read(&mut gets, line, statement)?;
+    w.work.gets = gets;
+    result
+}
+
 /// Ends the commands of a body, and puts what goes behind them. Gives the next commands within the same command; none
 /// where the command ends. The fault is Get, in the line that ends a part of a block, where the whole part was written
 /// and a READ is awaited.
-fn ended<'a>(s: &Source, w: &mut Writer, body: Body<'a>) -> Result<Option<Body<'a>>, CompileRefusal>
-    ensures grown { (base : AnyOutput) → OutputGrows base w.old.out → IsBodyBehind base body.entry
-        → OutputGrows base w.new.out }
-    ensures behind { (base : AnyOutput) → IsBodyBehind base body.entry
-        → IfOk result (λ body. IfSome body (IsBodyBehind base)) }
-{
+fn ended<'a>(w: &mut Writer, body: Body<'a>) -> Result<Option<Body<'a>>, CompileRefusal> {
     no_get_waits_behind(w, &body)?;
-    put_behind(s, w, body.behind)
+    put_behind(w, body.behind)
 }
 
 /// Puts what goes behind the commands of a body.
-fn put_behind<'a>(
-    s: &Source,
-    w: &mut Writer,
-    behind: Behind<'a>,
-) -> Result<Option<Body<'a>>, CompileRefusal>
-    ensures grown { (base : AnyOutput) → OutputGrows base w.old.out → IsEndBehind base behind.entry
-        → OutputGrows base w.new.out }
-    ensures behind { (base : AnyOutput) → IsEndBehind base behind.entry
-        → IfOk result (λ body. IfSome body (IsBodyBehind base)) }
-{
+fn put_behind<'a>(w: &mut Writer, behind: Behind<'a>) -> Result<Option<Body<'a>>, CompileRefusal> {
     match behind {
         Behind::Nothing => Ok(None),
-        Behind::Case(choice, other) => end_part(s, w, choice, other),
+        Behind::Case(choice, other) => end_part(w, choice, other),
         Behind::Otherwise(choice) => over(end_choice(w, choice)),
-        Behind::Round(round) => end_round(s, w, round),
+        Behind::Round(round) => end_round(w, round),
         Behind::Copy(copy) => over(end_call(w, copy)),
     }
 }
@@ -334,9 +271,7 @@ fn over<'a>(outcome: Result<(), CompileRefusal>) -> Result<Option<Body<'a>>, Com
 }
 
 /// The fault Get, in the line that ends a part of a block, where the whole part was written and a READ is awaited.
-fn no_get_waits_behind(w: &mut Writer, body: &Body) -> Result<(), CompileRefusal>
-    ensures same { w.new.out ≡ w.old.out }
-{
+fn no_get_waits_behind(w: &mut Writer, body: &Body) -> Result<(), CompileRefusal> {
     match body.end {
         Some(line) if body.list.is_empty() => no_get_waits(w, line),
         _ => Ok(()),

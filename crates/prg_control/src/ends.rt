@@ -4,7 +4,7 @@ ghost use Rattle.std.specs.Prelude.{◌≡◌, ◌<◌, ◌^◌, ℕ, [], ◌∷
 ghost use Rattle.std.specs.Prelude.{if◌then◌else◌};
 ghost use Rattle.code_items.specs.declared.instr.FlowInstr.TheVariants.{End};
 ghost use Rattle.code_items.specs.declared.instr.Instr.TheVariants.{Flow};
-ghost use Rattle.prg_code.specs.Growth.{WorkGrows, drafts_of};
+ghost use Rattle.prg_code.specs.Growth.{drafts_of};
 ghost use Rattle.prg_code.specs.declared.block.Draft.TheVariants as draft;
 ghost use Rattle.prg_code.specs.declared.fault.CompileError.TheVariants as error;
 ghost use Rattle.prg_code.specs.declared.fault.CompileFaultKind.TheVariants as kind;
@@ -31,7 +31,6 @@ pub fn put_return(work: &mut Work) -> Result<(), CompileError>
     ensures put { OnOk result (drafts_of work.new.block ≡ drafts_of work.old.block
         ++ (if work.old.is_main then draft.Instr (Flow End) else draft.Return) ∷ []) }
     ensures ended { OnOk result (work.new.block.reached ≡ false) }
-    ensures grown { WorkGrows work.old work.new }
 {
     if work.is_main {
         return work.block.put_end();
@@ -46,7 +45,6 @@ pub fn leap(work: &mut Work, label: Option<usize>) -> Result<(), CompileError>
     ensures put { (to : ℕ) → label ≡ Some to → OnOk result (to < 2 ^ 32 → work.old.block.reached ≡ true
         → drafts_of work.new.block ≡ drafts_of work.old.block ++ draft.Jump to ∷ []) }
     ensures outside { label ≡ None → result ≡ Err (error.Fault kind.Limit) }
-    ensures grown { WorkGrows work.old work.new }
 {
     match label {
         Some(label) => work.block.jump(label),
@@ -58,7 +56,6 @@ pub fn leap(work: &mut Work, label: Option<usize>) -> Result<(), CompileError>
 pub fn no_get_waits(w: &mut Writer, line: usize) -> Result<(), CompileRefusal>
     ensures none { w.old.listed ≡ None → OnOk result (w.new ≡ w.old) }
     ensures same { w.new ≡ record w.old { work = w.new.work; listed = w.new.listed } }
-    ensures grown { WorkGrows w.old.work w.new.work }
 {
     if w.work.gets.is_empty() {
         return Ok(());
@@ -75,7 +72,6 @@ pub fn end_procedure(w: &mut Writer, line: usize) -> Result<(), CompileRefusal>
     ensures ended { w.old.listed ≡ None → OnOk result (w.new.work.block.reached ≡ false) }
     // Only its own code and the list of faults change, and what stood still stands.
     ensures same { w.new ≡ record w.old { work = w.new.work; listed = w.new.listed } }
-    ensures grown { WorkGrows w.old.work w.new.work }
 {
     if let Some(get) = w.work.gets.last() {
         let line = get.line;

@@ -1,19 +1,13 @@
 //! DO WHILE and SCAN: a loop is written round by round, until what is known at its head holds.
 
-ghost use Rattle.std.specs.Prelude.{◌≡◌, IfOk, IfSome};
-ghost use Rattle.prg_code.specs.declared.work.Output.{Output as AnyOutput};
-ghost use Rattle.prg_code.specs.Growth.{OutputGrows};
-ghost use Rattle.prg_control.specs.Begun.{IsBodyBehind};
-ghost use Rattle.prg_writer.specs.Writing.{IsMarkBehind};
-
 use crate::body::{Behind, Body};
 use crate::steps::{LeapLabels, Span, jump, new_label, place, put_condition};
 use code_items::{Instr, Question, RecordInstr, State, ValueInstr};
 use prg_code::{CompileError, CompileFaultKind, CompileRefusal, MOST_SLOTS, is_state_same};
-use prg_commands::{put_skip_on, put_top};
+use prg_commands::{put_top, skip};
 use prg_expr::Expr;
 use prg_parser::Command;
-use prg_writer::{Source, Writer, WrittenMark};
+use prg_writer::{Writer, WrittenMark};
 use std::alloc::AllocError;
 use xvalue::{Fun, TruthFun};
 
@@ -61,19 +55,14 @@ pub struct Round<'a> {
 
 /// Begins a loop.
 pub fn open_loop<'a>(
-    s: &Source,
     w: &mut Writer,
     span: Span,
     test: LoopTest<'a>,
     body: &'a [Command],
-) -> Result<Option<Body<'a>>, CompileRefusal>
-    ensures grown { OutputGrows w.old.out w.new.out }
-    ensures behind { (base : AnyOutput) → OutputGrows base w.old.out
-        → IfOk result (λ body. IfSome body (IsBodyBehind base)) }
-{
+) -> Result<Option<Body<'a>>, CompileRefusal> {
     put_first_row(w, span.first, test)?;
     let of = begun_loop(w, span, test, body)?;
-    Ok(Some(open_round(s, w, of)?))
+    Ok(Some(open_round(w, of)?))
 }
 
 /// A loop before its first round, which begins with what is known at its head.
@@ -82,11 +71,7 @@ fn begun_loop<'a>(
     span: Span,
     test: LoopTest<'a>,
     body: &'a [Command],
-) -> Result<Loop<'a>, AllocError>
-    ensures same { w.new.out ≡ w.old.out }
-    ensures behind { (base : AnyOutput) → OutputGrows base w.old.out
-        → IfOk result (λ of. IsMarkBehind base of.mark) }
-{
+) -> Result<Loop<'a>, AllocError> {
     let entry = w.work.block.state.copied(w.alloc)?;
     let held = w.known_at_head(span.first)?;
     know(w, &held)?;
@@ -103,32 +88,25 @@ fn begun_loop<'a>(
 }
 
 /// Goes on with what is known.
-fn know(w: &mut Writer, state: &State) -> Result<(), AllocError>
-    ensures same { w.new.out ≡ w.old.out }
-{
+fn know(w: &mut Writer, state: &State) -> Result<(), AllocError> {
     w.work.block.state = state.copied(w.alloc)?;
     Ok(())
 }
 
 /// Goes to the first row, for a SCAN in this line; a DO WHILE begins with nothing.
-fn put_first_row(w: &mut Writer, line: usize, test: LoopTest) -> Result<(), CompileRefusal>
-    ensures same { w.new.out ≡ w.old.out }
-{
+fn put_first_row(w: &mut Writer, line: usize, test: LoopTest) -> Result<(), CompileRefusal> {
     match test {
         LoopTest::While(_) => Ok(()),
         LoopTest::Rows(_) => {
-            let result = put_top(&w.out, &mut w.work);
+            let result = put_top(w);
             w.told(line, result)
         }
     }
 }
 
 /// Begins a round.
-fn open_round<'a>(s: &Source, w: &mut Writer, of: Loop<'a>) -> Result<Body<'a>, CompileRefusal>
-    ensures grown { OutputGrows w.old.out w.new.out }
-    ensures behind { (base : AnyOutput) → IsMarkBehind base of.entry.mark → IfOk result (IsBodyBehind base) }
-{
-    let head = put_head(s, w, &of)?;
+fn open_round<'a>(w: &mut Writer, of: Loop<'a>) -> Result<Body<'a>, CompileRefusal> {
+    let head = put_head(w, &of)?;
     Ok(Body {
         list: of.body,
         end: Some(of.span.end),
@@ -138,16 +116,14 @@ fn open_round<'a>(s: &Source, w: &mut Writer, of: Loop<'a>) -> Result<Body<'a>, 
 }
 
 /// Puts what goes before the commands of a round.
-fn put_head(s: &Source, w: &mut Writer, of: &Loop) -> Result<Head, CompileRefusal>
-    ensures grown { OutputGrows w.old.out w.new.out }
-{
+fn put_head(w: &mut Writer, of: &Loop) -> Result<Head, CompileRefusal> {
     let line = of.span.first;
     let top = new_label(w, line)?;
     let leaps = leaps_of(w, line, of.test, top)?;
     place(w, line, top)?;
     match of.test {
-        LoopTest::While(e) => put_condition(s, w, line, e, leaps.out)?,
-        LoopTest::Rows(only_if) => put_row_test(s, w, line, only_if, leaps)?,
+        LoopTest::While(e) => put_condition(w, line, e, leaps.out)?,
+        LoopTest::Rows(only_if) => put_row_test(w, line, only_if, leaps)?,
     }
     Ok(Head { top, leaps })
 }
@@ -158,9 +134,7 @@ fn leaps_of(
     line: usize,
     test: LoopTest,
     top: usize,
-) -> Result<LeapLabels, CompileRefusal>
-    ensures same { w.new.out ≡ w.old.out }
-{
+) -> Result<LeapLabels, CompileRefusal> {
     let again = match test {
         LoopTest::While(_) => top,
         LoopTest::Rows(_) => new_label(w, line)?,
@@ -172,28 +146,23 @@ fn leaps_of(
 /// Puts the test of a SCAN, which leads out where there is no row, and on to the next row where the condition of its
 /// FOR doesn't hold.
 fn put_row_test(
-    s: &Source,
     w: &mut Writer,
     line: usize,
     only_if: &Option<Expr>,
     leaps: LeapLabels,
-) -> Result<(), CompileRefusal>
-    ensures grown { OutputGrows w.old.out w.new.out }
-{
+) -> Result<(), CompileRefusal> {
     let result = put_scan_test(w);
     w.told(line, result)?;
     let result = w.work.block.jump_false(leaps.out);
     w.told(line, result)?;
     match only_if {
-        Some(e) => put_condition(s, w, line, e, leaps.again),
+        Some(e) => put_condition(w, line, e, leaps.again),
         None => Ok(()),
     }
 }
 
 /// Puts the test of a SCAN: whether there is a row.
-fn put_scan_test(w: &mut Writer) -> Result<(), CompileError>
-    ensures same { w.new.out ≡ w.old.out }
-{
+fn put_scan_test(w: &mut Writer) -> Result<(), CompileError> {
     if w.work.block.state.desk.selected_area().is_none() {
         return Err(CompileError::Fault(CompileFaultKind::ClosedArea));
     }
@@ -204,18 +173,9 @@ fn put_scan_test(w: &mut Writer) -> Result<(), CompileError>
 }
 
 /// Ends a round. Where less is known at the loop's head by its ways back than in this round, it begins another one.
-pub fn end_round<'a>(
-    s: &Source,
-    w: &mut Writer,
-    round: Round<'a>,
-) -> Result<Option<Body<'a>>, CompileRefusal>
-    ensures grown { (base : AnyOutput) → OutputGrows base w.old.out → IsMarkBehind base round.entry.of.mark
-        → OutputGrows base w.new.out }
-    ensures behind { (base : AnyOutput) → IsMarkBehind base round.entry.of.mark
-        → IfOk result (λ body. IfSome body (IsBodyBehind base)) }
-{
+pub fn end_round<'a>(w: &mut Writer, round: Round<'a>) -> Result<Option<Body<'a>>, CompileRefusal> {
     match known_again(w, &round)? {
-        Some(state) => Ok(Some(again(s, w, round.of, state)?)),
+        Some(state) => Ok(Some(again(w, round.of, state)?)),
         None => {
             end_loop(w, round.of)?;
             Ok(None)
@@ -225,9 +185,7 @@ pub fn end_round<'a>(
 
 /// Leads back to the loop's head. Where less is known there now than in this round, the answer is what is known, and
 /// Limit where no round may follow. Else the place behind the loop is here, and the answer is none.
-fn known_again(w: &mut Writer, round: &Round) -> Result<Option<State>, CompileRefusal>
-    ensures grown { OutputGrows w.old.out w.new.out }
-{
+fn known_again(w: &mut Writer, round: &Round) -> Result<Option<State>, CompileRefusal> {
     let (of, head) = (&round.of, round.head);
     let end = of.span.end;
     put_way_back(w, end, of.test, head.top, head.leaps.again)?;
@@ -242,9 +200,7 @@ fn known_again(w: &mut Writer, round: &Round) -> Result<Option<State>, CompileRe
 }
 
 /// Remembers what held at the head of a loop that is written, if the loop took more than one round.
-fn end_loop(w: &mut Writer, of: Loop) -> Result<(), AllocError>
-    ensures same { w.new.out ≡ w.old.out }
-{
+fn end_loop(w: &mut Writer, of: Loop) -> Result<(), AllocError> {
     let Loop {
         span,
         mark,
@@ -266,9 +222,7 @@ fn put_way_back(
     test: LoopTest,
     top: usize,
     again: usize,
-) -> Result<(), CompileRefusal>
-    ensures grown { OutputGrows w.old.out w.new.out }
-{
+) -> Result<(), CompileRefusal> {
     match test {
         LoopTest::While(_) => jump(w, end, top),
         LoopTest::Rows(_) => {
@@ -279,13 +233,11 @@ fn put_way_back(
 }
 
 /// Goes on to the next row and back to the top, where this is reached.
-fn put_next_row(w: &mut Writer, end: usize, top: usize) -> Result<(), CompileRefusal>
-    ensures grown { OutputGrows w.old.out w.new.out }
-{
+fn put_next_row(w: &mut Writer, end: usize, top: usize) -> Result<(), CompileRefusal> {
     if !w.work.block.reached {
         return Ok(());
     }
-    let result = put_skip_on(&mut w.out, &mut w.work);
+    let result = skip(w, &None);
     w.told(end, result)?;
     jump(w, end, top)
 }
@@ -297,9 +249,7 @@ fn wider(
     end: usize,
     top: usize,
     held: &State,
-) -> Result<Option<State>, CompileRefusal>
-    ensures same { w.new.out ≡ w.old.out }
-{
+) -> Result<Option<State>, CompileRefusal> {
     let Some(label) = w.work.block.labels.get(top) else {
         return Ok(None);
     };
@@ -319,19 +269,10 @@ fn wider(
 }
 
 /// Gives the round up, and begins another one with what is known at the head.
-fn again<'a>(
-    s: &Source,
-    w: &mut Writer,
-    of: Loop<'a>,
-    state: State,
-) -> Result<Body<'a>, CompileRefusal>
-    ensures grown { (base : AnyOutput) → OutputGrows base w.old.out → IsMarkBehind base of.entry.mark
-        → OutputGrows base w.new.out }
-    ensures behind { (base : AnyOutput) → IsMarkBehind base of.entry.mark → IfOk result (IsBodyBehind base) }
-{
+fn again<'a>(w: &mut Writer, of: Loop<'a>, state: State) -> Result<Body<'a>, CompileRefusal> {
     let mut of = of;
     w.give_up(&of.mark, &state)?;
     of.held = state;
     of.rounds = of.rounds.saturating_sub(1);
-    open_round(s, w, of)
+    open_round(w, of)
 }

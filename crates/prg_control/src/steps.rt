@@ -1,15 +1,13 @@
 //! Labels, jumps and conditions, with the line of their command where they are refused.
 
-ghost use Rattle.std.specs.Prelude.{◌≡◌, ◌<◌, ◌^◌, [], ◌∷◌, ◌++◌, true, false, IfSome, IsOk, OnOk};
+ghost use Rattle.std.specs.Prelude.{◌≡◌, ◌<◌, ◌^◌, [], ◌∷◌, ◌++◌, true, false, IsOk, OnOk};
 ghost use Rattle.prg_code.specs.declared.block.Draft.TheVariants as draft;
-ghost use Rattle.prg_code.specs.declared.work.Output.{Output as AnyOutput};
-ghost use Rattle.prg_code.specs.Growth.{OutputGrows, WorkGrows, drafts_of};
-ghost use Rattle.prg_writer.specs.Writing.{IsBegunBehind};
+ghost use Rattle.prg_code.specs.Growth.{drafts_of};
 
 use prg_code::CompileRefusal;
-use prg_commands::{condition, put_constant};
+use prg_commands::{Sink, condition};
 use prg_expr::Expr;
-use prg_writer::{Begun, Source, Writer};
+use prg_writer::{Begun, Writer};
 use xvalue::Value;
 
 /// Where LOOP and EXIT of the innermost loop lead: the numbers of labels.
@@ -37,26 +35,21 @@ impl Span {
 
 /// A condition and a JUMPF to the label. Where faults are listed, a faulty condition counts as .T.
 pub fn put_condition(
-    s: &Source,
     w: &mut Writer,
     line: usize,
     e: &Expr,
     label: usize,
-) -> Result<(), CompileRefusal>
-    ensures grown { OutputGrows w.old.out w.new.out }
-{
-    put_test(s, w, line, e)?;
+) -> Result<(), CompileRefusal> {
+    put_test(w, line, e)?;
     let result = w.work.block.jump_false(label);
     w.told(line, result)
 }
 
 /// A condition, or .T. in its place.
-fn put_test(s: &Source, w: &mut Writer, line: usize, e: &Expr) -> Result<(), CompileRefusal>
-    ensures grown { OutputGrows w.old.out w.new.out }
-{
+fn put_test(w: &mut Writer, line: usize, e: &Expr) -> Result<(), CompileRefusal> {
     let begun = w.begun()?;
     w.work.block.line = line;
-    let result = condition(s.shape, &mut w.out, &mut w.work, e);
+    let result = condition(w, e);
     let outcome = w.told(line, result);
     put_true_for(w, line, &begun, outcome)
 }
@@ -67,31 +60,22 @@ fn put_true_for(
     line: usize,
     begun: &Option<Begun>,
     outcome: Result<(), CompileRefusal>,
-) -> Result<(), CompileRefusal>
-    ensures grown { (base : AnyOutput) → IfSome begun.now (IsBegunBehind base) → OutputGrows base w.old.out
-        → OutputGrows base w.new.out }
-{
+) -> Result<(), CompileRefusal> {
     if !w.gave_up(begun, outcome)? {
         return Ok(());
     }
-    let result = put_constant(&mut w.out, &mut w.work, Value::Logical(true));
+    let result = w.constant(Value::Logical(true));
     w.told(line, result)
 }
 
 /// A label that has no place yet.
-pub fn new_label(w: &mut Writer, line: usize) -> Result<usize, CompileRefusal>
-    ensures same { w.new.out ≡ w.old.out }
-    ensures grown { WorkGrows w.old.work w.new.work }
-{
+pub fn new_label(w: &mut Writer, line: usize) -> Result<usize, CompileRefusal> {
     let result = w.work.block.new_label();
     w.told(line, result)
 }
 
 /// The label stands here. Merge where different work areas are selected on the ways that meet here.
-pub fn place(w: &mut Writer, line: usize, label: usize) -> Result<(), CompileRefusal>
-    ensures same { w.new.out ≡ w.old.out }
-    ensures grown { WorkGrows w.old.work w.new.work }
-{
+pub fn place(w: &mut Writer, line: usize, label: usize) -> Result<(), CompileRefusal> {
     w.work.block.line = line;
     let result = w.work.block.place(label);
     let outcome = w.told(line, result);
@@ -100,8 +84,6 @@ pub fn place(w: &mut Writer, line: usize, label: usize) -> Result<(), CompileRef
 
 /// A JUMP to the label, where this is reached.
 pub fn jump(w: &mut Writer, line: usize, label: usize) -> Result<(), CompileRefusal>
-    ensures same { w.new.out ≡ w.old.out }
-    ensures grown { WorkGrows w.old.work w.new.work }
     ensures put { OnOk result (label < 2 ^ 32 → w.old.work.block.reached ≡ true
         → drafts_of w.new.work.block ≡ drafts_of w.old.work.block ++ draft.Jump label ∷ []) }
     // Where the place isn't reached, no jump is written.

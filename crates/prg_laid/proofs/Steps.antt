@@ -14,12 +14,12 @@ use Rattle.prg_parser.specs.declared.command.Branch.{Branch}
 use Rattle.prg_parser.specs.declared.command.Case.{Case}
 use Rattle.prg_parser.specs.declared.command.Command.{Command}
 use Rattle.prg_parser.specs.declared.command.Form.TheViews.{out-Case, out-Branch}
-use Rattle.prg_laid.specs.Acts.{is_none_waiting}
+use Rattle.prg_commands.specs.Acts.{is_none_waiting}
 use Rattle.prg_laid.specs.Choices.{Told, Looked, Chains, ComesBack, is_absent}
 use Rattle.prg_laid.specs.Commands.{Laid, LaidAll, LaidCases, LaidPart, chosen, cases, more, cut, done, when, otherwise}
 use Rattle.prg_laid.specs.Commands.{neither, then_way, either_way, to, Follows, Goes, Tests, Chooses, HasRow, Advances}
 use Rattle.prg_laid.specs.Commands.{while, scan, is_last, waiting_behind}
-use Rattle.prg_laid.specs.Layout.{Laying}
+use Rattle.prg_commands.specs.Layout.{Laying}
 use Rattle.prg_laid.specs.declared.control.ChoicePart.{ChoicePart}
 use Rattle.prg_laid.specs.declared.control.Test.{Test}
 use Rattle.prg_laid.specs.declared.way.Leaps.{Leaps}

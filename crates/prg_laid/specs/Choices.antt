@@ -4,18 +4,19 @@ use Rattle.code_items.specs.declared.instr.FlowInstr.TheVariants.{End}
 use Rattle.code_items.specs.declared.instr.Instr.TheVariants.{Flow}
 use Rattle.prg_expr.specs.Tree.{Tree}
 use Rattle.prg_line.specs.Act.{Act, Letters}
-use Rattle.prg_laid.specs.Acts.{is_none_waiting}
+use Rattle.prg_commands.specs.Acts.{is_none_waiting}
 use Rattle.prg_parser.specs.Commands.{Cmds, Part, Single, Absent, Otherwise, DoWhile, cases_of}
 use Rattle.prg_parser.specs.declared.command.Case.{Case}
 use Rattle.prg_values.specs.Placed.{InstrStands}
 use Rattle.prg_laid.specs.declared.control.ChoicePart.{ChoicePart}
 use Rattle.prg_laid.specs.declared.control.Test.{Test}
-use Rattle.prg_laid.specs.declared.statement.Leap.{Leap}
+use Rattle.prg_commands.specs.Turns.{IsTurn}
+use Rattle.prg_commands.specs.declared.statement.Turn.{Turn}
 use Rattle.prg_laid.specs.declared.way.Leaps.{Leaps}
 use Rattle.prg_laid.specs.declared.way.Way.{Way}
-use Rattle.prg_laid.specs.Commands.{Advances, Follows, IsLeap, Laid, LaidAll, LaidCases, LaidPart, Meets, Tests}
+use Rattle.prg_laid.specs.Commands.{Advances, Follows, Laid, LaidAll, LaidCases, LaidPart, Meets, Tests}
 use Rattle.prg_laid.specs.Commands.{either_way, stopped}
-use Rattle.prg_laid.specs.Layout.{Laying}
+use Rattle.prg_commands.specs.Layout.{Laying}
 
 -- the way back of a SCAN, where LOOP leads to a place
 abbrev pub ComesBack : Laying → Way → Bool → ℕ → ℕ → ℕ → Type 0
@@ -26,9 +27,9 @@ ComesBack f w chooses again top b =
 abbrev pub Finishes : Laying → ℕ → Way → Type 0
 Finishes f a w = (b : ℕ) × InstrStands f.text a (Flow End) b × (w ≡ stopped b false)
 
--- each command behind which the way goes on there is laid out from this place on, where no GET waits
-abbrev pub LeaptBy : Laying → Option Leaps → ℕ → Leap → Way → Type 0
-LeaptBy f l a leap w = (n : ℕ) (act : Act) → IsLeap leap act → Laid f l [] a (Single n act) w
+-- each command that makes this turn is laid out from this place on, where no GET waits
+abbrev pub TurnedBy : Laying → Option Leaps → ℕ → Turn → Way → Type 0
+TurnedBy f l a turn w = (n : ℕ) (act : Act) → IsTurn (Some turn) act → Laid f l [] a (Single n act) w
 
 -- the end of a choice, as far as a JUMP told it
 abbrev pub Told : Option ℕ → ℕ → Type 0

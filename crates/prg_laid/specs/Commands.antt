@@ -27,10 +27,8 @@ use Rattle.prg_code.specs.Bindings.{NamedVariables}
 use Rattle.prg_code.specs.declared.names.Variable.{Variable}
 use Rattle.prg_values.specs.Written.{whole_as_value as whole_number}
 use Rattle.prg_values.specs.Placed.{InstrStands}
-use Rattle.prg_laid.specs.Acts.{ActLaid, ConstantStands, may_follow_gets, waiting}
-use Rattle.prg_laid.specs.Layout.{Laying, ExprLaid}
-use Rattle.prg_laid.specs.declared.statement.Leap.{Leap}
-use Rattle.prg_laid.specs.declared.statement.Leap.TheVariants as leap
+use Rattle.prg_commands.specs.Acts.{ActLaid, ConstantStands, may_follow_gets, waiting}
+use Rattle.prg_commands.specs.Layout.{Laying, ExprLaid}
 use Rattle.prg_laid.specs.declared.way.Leaps.{Leaps}
 use Rattle.prg_laid.specs.declared.way.Way.{Way}
 
@@ -108,18 +106,6 @@ ends_run Return = true
 ends_run Quit = true
 ends_run Cancel = true
 ends_run _ = false
-
--- the commands behind which the way goes on there
-abbrev pub IsLeap : Leap → Act → Type 0
-IsLeap leap.Again act = act ≡ loop_act
-IsLeap leap.Out act = act ≡ exit_act
-IsLeap leap.End act = ends_run act ≡ true
-
--- whether a command leads the way elsewhere, as LOOP, EXIT and those that end the run do
-abbrev pub leads_elsewhere : Act → Bool
-leads_elsewhere Loop = true
-leads_elsewhere Exit = true
-leads_elsewhere act = ends_run act
 
 mutual
   -- a command in a loop whose LOOP and EXIT lead there, or in none, where these GETs wait

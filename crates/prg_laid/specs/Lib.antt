@@ -1,4 +1,3 @@
-pub mod Acts
 pub mod ByNumber
 pub mod Choices
 pub mod Commands

@@ -5,7 +5,7 @@ ghost use Rattle.std.specs.Prelude.{option_map};
 ghost use Rattle.code_items.specs.declared.instr.FlowInstr.TheVariants.{Jump, JumpFalse};
 ghost use Rattle.code_items.specs.declared.instr.Instr.TheVariants.{Flow};
 ghost use Rattle.prg_expr.specs.Tree.{tree_of};
-ghost use Rattle.prg_laid.specs.Acts as acts;
+ghost use Rattle.prg_commands.specs.Acts as acts;
 ghost use Rattle.prg_laid.specs.Choices as choices;
 ghost use Rattle.prg_laid.specs.Commands as spec;
 ghost use Rattle.prg_laid.specs.Layout.{laying};
@@ -14,14 +14,17 @@ ghost use Rattle.prg_line.specs.Act.{act_of};
 ghost use Rattle.prg_parser.specs.Commands.{Single, Scan, form_command, command_of, commands_of, part_of};
 ghost use Rattle.prg_values.specs.Placed.{InstrStands};
 
-use crate::fault::{FoundLaid, LayoutFault};
+use crate::checker::Checker;
+use crate::fault::{FoundLaid, OTHERWISE};
 use crate::layout::{Layout, after, given_as, puts_one};
-use crate::statement::{Leap, does, leap_of, may_stand, none_wait, wait_behind};
 use crate::way::{Leaps, Way};
-use code_items::{FlowInstr, Instr, MoveInstr, Name, Question, RecordInstr, ValueInstr};
+use code_items::{FlowInstr, Instr, MoveInstr, Question, RecordInstr, ValueInstr};
+use prg_code::Get;
+use prg_commands::{Turn, put_statement, turn_of, wait_for_read};
 use prg_expr::Expr;
 use prg_line::Statement;
 use prg_parser::{Branch, Case, Command, Form};
+use prg_values::may_stand_before_read;
 use std::alloc::AllocError;
 use xvalue::{Fun, Kind, TruthFun};
 
@@ -49,7 +52,7 @@ fn jumps(l: &Layout, place: usize, to: usize) -> FoundLaid<usize>
 {
     match l.text.instrs.get(place) {
         Some(Instr::Flow(FlowInstr::Jump(there))) if *there as usize == to => Ok(place + 1),
-        _ => Err(LayoutFault::Otherwise),
+        _ => Err(OTHERWISE),
     }
 }
 
@@ -62,7 +65,7 @@ fn jump_at(l: &Layout, place: usize) -> FoundLaid<Test>
             out: *there as usize,
             end: place + 1,
         }),
-        _ => Err(LayoutFault::Otherwise),
+        _ => Err(OTHERWISE),
     }
 }
 
@@ -75,7 +78,7 @@ fn fork_at(l: &Layout, place: usize) -> FoundLaid<Test>
             out: *there as usize,
             end: place + 1,
         }),
-        _ => Err(LayoutFault::Otherwise),
+        _ => Err(OTHERWISE),
     }
 }
 
@@ -97,7 +100,7 @@ fn chosen(l: &Layout, place: usize, only_if: &Option<Expr>, next: usize) -> Foun
             if test.out == next {
                 Ok(test.end)
             } else {
-                Err(LayoutFault::Otherwise)
+                Err(OTHERWISE)
             }
         }
         None => Ok(place),
@@ -146,7 +149,7 @@ fn way_back(l: &Layout, way: Way, chooses: bool, again: usize, top: usize) -> Fo
 {
     let reached = way.on || way.again || chooses;
     if reached && way.place != again {
-        return Err(LayoutFault::Otherwise);
+        return Err(OTHERWISE);
     }
     advanced(l, way.place, reached, top)
 }
@@ -168,7 +171,7 @@ fn followed(l: &Layout, end: Option<usize>, way: Way, last: bool) -> FoundLaid<C
         },
     };
     match end {
-        Some(told) if told != jump.out => Err(LayoutFault::Otherwise),
+        Some(told) if told != jump.out => Err(OTHERWISE),
         _ => Ok(part),
     }
 }
@@ -179,7 +182,7 @@ fn ending(end: Option<usize>, way: Way) -> FoundLaid<Way>
     ensures same { IfOk result (λ w. w ≡ way) }
 {
     match end {
-        Some(end) if end != way.place => Err(LayoutFault::Otherwise),
+        Some(end) if end != way.place => Err(OTHERWISE),
         _ => Ok(way),
     }
 }
@@ -196,7 +199,7 @@ fn looping(l: &Layout, leaps: Option<Leaps>, place: usize) -> FoundLaid<Way>
     ensures { IfOk result (λ way. (n : ℕ) → spec.Laid (laying l.now) leaps [] place (Single n spec.loop_act) way) }
 {
     let Some(leaps) = leaps else {
-        return Err(LayoutFault::Otherwise);
+        return Err(OTHERWISE);
     };
     let end = jumps(l, place, leaps.again)?;
     Ok(Way::stopped(end, true))
@@ -206,7 +209,7 @@ fn exiting(l: &Layout, leaps: Option<Leaps>, place: usize) -> FoundLaid<Way>
     ensures { IfOk result (λ way. (n : ℕ) → spec.Laid (laying l.now) leaps [] place (Single n spec.exit_act) way) }
 {
     let Some(leaps) = leaps else {
-        return Err(LayoutFault::Otherwise);
+        return Err(OTHERWISE);
     };
     let end = jumps(l, place, leaps.out)?;
     Ok(Way::stopped(end, false))
@@ -219,67 +222,95 @@ fn finishing(l: &Layout, place: usize) -> FoundLaid<Way>
     Ok(Way::stopped(end, false))
 }
 
-fn plain(l: &Layout, gets: &[&Name], place: usize, statement: &Statement) -> FoundLaid<Way>
+/// Whether no GET waits.
+fn none_wait(gets: &[Get]) -> bool
+    ensures { result ≡ acts.is_none_waiting (acts.names_of gets.now) }
+{
+    match gets {
+        [] => true,
+        _ => false,
+    }
+}
+
+/// Whether the command may stand where these GETs wait for their READ.
+fn may_stand(gets: &[Get], statement: &Statement) -> bool
+    ensures { result ≡ acts.may_follow_gets (acts.names_of gets.now) (act_of statement.now) }
+{
+    may_stand_before_read(statement) || none_wait(gets)
+}
+
+/// The place behind the code of a command of one line that doesn't turn the way.
+fn done(l: &Layout, gets: &[Get], place: usize, statement: &Statement) -> FoundLaid<usize>
+    ensures { IfOk result (λ b. acts.ActLaid (laying l.now) (acts.names_of gets.now) place (act_of statement.now) b) }
+{
+    let mut checker = Checker { layout: *l, place };
+    put_statement(&mut checker, gets, statement)?;
+    Ok(checker.place)
+}
+
+fn plain(l: &Layout, gets: &[Get], place: usize, statement: &Statement) -> FoundLaid<Way>
     ensures { IfOk result (λ way. (leaps : Option Looped) (n : ℕ)
         → spec.Laid (laying l.now) leaps (acts.names_of gets.now) place (Single n (act_of statement.now)) way) }
 {
     if !may_stand(gets, statement) {
-        return Err(LayoutFault::Otherwise);
+        return Err(OTHERWISE);
     }
-    let end = does(l, place, gets, statement)?;
+    let end = done(l, gets, place, statement)?;
     Ok(Way::to(end))
 }
 
-/// A command that leads elsewhere, where no GET waits.
-fn leaving(l: &Layout, leaps: Option<Leaps>, place: usize, leap: Leap) -> FoundLaid<Way>
-    ensures { IfOk result (λ way. choices.LeaptBy (laying l.now) leaps place leap way) }
+/// A command that turns the way, where no GET waits. A call isn't taken.
+fn leaving(l: &Layout, leaps: Option<Leaps>, place: usize, turn: Turn) -> FoundLaid<Way>
+    ensures { IfOk result (λ way. choices.TurnedBy (laying l.now) leaps place turn.entry way) }
 {
-    match leap {
-        Leap::Again => looping(l, leaps, place),
-        Leap::Out => exiting(l, leaps, place),
-        Leap::End => finishing(l, place),
+    match turn {
+        Turn::Again => looping(l, leaps, place),
+        Turn::Out => exiting(l, leaps, place),
+        Turn::Return => finishing(l, place),
+        Turn::End => finishing(l, place),
+        Turn::Call(_, _) => Err(OTHERWISE),
     }
 }
 
 fn single(
     l: &Layout,
     leaps: Option<Leaps>,
-    gets: &[&Name],
+    gets: &[Get],
     place: usize,
     statement: &Statement,
 ) -> FoundLaid<Way>
     ensures { IfOk result (λ way. (n : ℕ)
         → spec.Laid (laying l.now) leaps (acts.names_of gets.now) place (Single n (act_of statement.now)) way) }
 {
-    let Some(leap) = leap_of(statement) else {
+    let Some(turn) = turn_of(statement) else {
         return plain(l, gets, place, statement);
     };
     if none_wait(gets) {
-        leaving(l, leaps, place, leap)
+        leaving(l, leaps, place, turn)
     } else {
-        Err(LayoutFault::Otherwise)
+        Err(OTHERWISE)
     }
 }
 
 /// The GETs that wait behind the command, which isn't a block while GETs wait.
-fn wait_on<'a>(gets: &mut Vec<&'a Name>, command: &'a Command) -> Result<(), AllocError>
+fn wait_on(gets: &mut Vec<Get>, command: &Command) -> Result<(), AllocError>
     ensures { OnOk result (acts.names_of gets.new.items
         ≡ spec.waiting_behind (acts.names_of gets.old.items) (command_of command.now)) }
 {
     match &command.form {
-        Form::Statement(statement) => wait_behind(gets, statement),
+        Form::Statement(statement) => wait_for_read(gets, command.line, statement),
         _ => Ok(()),
     }
 }
 
 /// The way behind all commands, where no GET may wait.
-fn closed(way: Way, gets: &[&Name]) -> FoundLaid<Way>
+fn closed(way: Way, gets: &[Get]) -> FoundLaid<Way>
     ensures { IfOk result (λ w. choices.IsWayOut way (acts.names_of gets.now) w) }
 {
     if !way.on || none_wait(gets) {
         Ok(way)
     } else {
-        Err(LayoutFault::Otherwise)
+        Err(OTHERWISE)
     }
 }
 
@@ -288,7 +319,7 @@ fn all(l: &Layout, leaps: Option<Leaps>, place: usize, list: &[Command]) -> Foun
     ensures { IfOk result (λ way. spec.LaidAll (laying l.now) leaps [] place (commands_of list.now) way) }
 {
     let mut way = Way::to(place);
-    let mut gets = Vec::new(l.alloc);
+    let mut gets: Vec<Get> = Vec::new(l.alloc);
     for command in list {
         if !way.on {
             return Ok(way);
@@ -316,7 +347,7 @@ fn part(
     if part.way.place == test.out {
         Ok(part)
     } else {
-        Err(LayoutFault::Otherwise)
+        Err(OTHERWISE)
     }
 }
 
@@ -374,7 +405,7 @@ fn repeated(l: &Layout, place: usize, test: Test, body: &[Command]) -> FoundLaid
     if end == test.out {
         Ok(Way::to(end))
     } else {
-        Err(LayoutFault::Otherwise)
+        Err(OTHERWISE)
     }
 }
 
@@ -397,7 +428,7 @@ fn scanned(l: &Layout, place: usize, only_if: &Option<Expr>, body: &[Command]) -
     if end == test.out {
         Ok(Way::to(end))
     } else {
-        Err(LayoutFault::Otherwise)
+        Err(OTHERWISE)
     }
 }
 
@@ -406,7 +437,7 @@ fn block(l: &Layout, leaps: Option<Leaps>, place: usize, form: &Form) -> FoundLa
     ensures { IfOk result (λ way. (n : ℕ) → spec.Laid (laying l.now) leaps [] place (form_command form.now n) way) }
 {
     match form {
-        Form::Statement(_) => Err(LayoutFault::Otherwise),
+        Form::Statement(_) => Err(OTHERWISE),
         Form::If {
             condition,
             then,
@@ -447,7 +478,7 @@ fn block(l: &Layout, leaps: Option<Leaps>, place: usize, form: &Form) -> FoundLa
 fn one(
     l: &Layout,
     leaps: Option<Leaps>,
-    gets: &[&Name],
+    gets: &[Get],
     place: usize,
     command: &Command,
 ) -> FoundLaid<Way>
@@ -460,7 +491,7 @@ fn one(
     if none_wait(gets) {
         block(l, leaps, place, &command.form)
     } else {
-        Err(LayoutFault::Otherwise)
+        Err(OTHERWISE)
     }
 }
 

@@ -1,9 +1,6 @@
 //! Why a code isn't taken.
 
-ghost use Rattle.std.specs.Prelude.{◌≡◌};
-ghost use Rattle.prg_laid.specs.declared.fault.LayoutFault.TheVariants as fault;
-
-use std::alloc::{AllocError, AllocFailed};
+use prg_code::{CompileError, CompileFaultKind};
 
 /// Why a code isn't taken.
 #[derive(Clone, Copy)]
@@ -14,21 +11,17 @@ pub enum LayoutFault {
     NoMemory,
 }
 
-/// What is found at a place of a code; Otherwise where something else stands there.
-pub type FoundLaid<T> = Result<T, LayoutFault>;
+/// What is found at a place of a code; a fault where something else stands there.
+pub type FoundLaid<T> = Result<T, CompileError>;
 
-impl From<AllocError> for LayoutFault {
-    ghost from_gives = { λ _ e. e ≡ fault.NoMemory };
+/// Something else stands there.
+pub const OTHERWISE: CompileError = CompileError::Fault(CompileFaultKind::Limit);
 
-    fn from(_error: AllocError) -> LayoutFault {
-        LayoutFault::NoMemory
-    }
-}
-
-impl<T: Drop> From<AllocFailed<T>> for LayoutFault {
-    ghost from_gives = { λ _ e. e ≡ fault.NoMemory };
-
-    fn from(_error: AllocFailed<T>) -> LayoutFault {
-        LayoutFault::NoMemory
+impl From<CompileError> for LayoutFault {
+    fn from(error: CompileError) -> LayoutFault {
+        match error {
+            CompileError::Fault(_) => LayoutFault::Otherwise,
+            CompileError::NoMemory => LayoutFault::NoMemory,
+        }
     }
 }

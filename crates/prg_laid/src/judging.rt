@@ -10,7 +10,7 @@ ghost use Rattle.prg_laid.specs.Layout.{laying};
 ghost use Rattle.prg_parser.specs.Commands.{commands_of};
 
 use crate::control::way_of;
-use crate::fault::{FoundLaid, LayoutFault};
+use crate::fault::{FoundLaid, LayoutFault, OTHERWISE};
 use crate::known::KnownStates;
 use crate::layout::{Layout, after};
 use crate::way::Way;
@@ -89,7 +89,7 @@ fn is_filter_block(code: &Code, place: usize, number: usize, block: Block) -> bo
 }
 
 /// The blocks of the filters.
-fn filter_blocks(alloc: Global, code: &Code) -> Result<Vec<Block>, LayoutFault>
+fn filter_blocks(alloc: Global, code: &Code) -> FoundLaid<Vec<Block>>
     requires { IsCode code.now }
     ensures { IfOk result (λ filters. spec.AreFilters code.now filters.items) }
 {
@@ -99,7 +99,7 @@ fn filter_blocks(alloc: Global, code: &Code) -> Result<Vec<Block>, LayoutFault>
     for number in 0..code.declared.filters.len() {
         let block = block_at(code, first);
         if !is_filter_block(code, first, number, block) {
-            return Err(LayoutFault::Otherwise);
+            return Err(OTHERWISE);
         }
         first = block.end;
         filters.push(block)?;
@@ -151,7 +151,7 @@ fn is_whole(l: &Layout, list: &[Command], length: usize) -> FoundLaid<()>
     if closed(l, way)? == length {
         Ok(())
     } else {
-        Err(LayoutFault::Otherwise)
+        Err(OTHERWISE)
     }
 }
 
@@ -162,25 +162,16 @@ fn main_of(code: &Code) -> Option<&Proc>
     code.procedures.as_slice().get(0)
 }
 
-/// Says yes where the main procedure of a legal code is laid out as the commands say, its variables in these slots.
-///
-/// # Errors
-///
-/// `Otherwise` where it isn't, and where the commands call procedures or have parameters. Want of memory.
-pub fn judge(
-    alloc: Global,
-    code: &LegalCode,
-    names: &Names,
-    list: &[Command],
-) -> Result<(), LayoutFault>
+/// Ok if the main procedure of a legal code is laid out as the commands say, its variables in these slots.
+fn demand_laid(alloc: Global, code: &LegalCode, names: &Names, list: &[Command]) -> FoundLaid<()>
     ensures { IfOk result (λ _. spec.IsLaid code.now names.now (commands_of list.now)) }
 {
     let code = code.code();
     let Some(main) = main_of(code) else {
-        return Err(LayoutFault::Otherwise);
+        return Err(OTHERWISE);
     };
     if !do_slots_differ(names.variables()) {
-        return Err(LayoutFault::Otherwise);
+        return Err(OTHERWISE);
     }
     let length = usize::from(main.length);
     let known = known_places(alloc, code, length)?;
@@ -197,4 +188,21 @@ pub fn judge(
         filters: &filters,
     };
     is_whole(&layout, list, length)
+}
+
+/// Says yes where the main procedure of a legal code is laid out as the commands say, its variables in these slots.
+///
+/// # Errors
+///
+/// `Otherwise` where it isn't, and where the commands call procedures or have parameters. Want of memory.
+pub fn judge(
+    alloc: Global,
+    code: &LegalCode,
+    names: &Names,
+    list: &[Command],
+) -> Result<(), LayoutFault>
+    ensures { IfOk result (λ _. spec.IsLaid code.now names.now (commands_of list.now)) }
+{
+    demand_laid(alloc, code, names, list)?;
+    Ok(())
 }

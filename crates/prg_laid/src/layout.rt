@@ -1,22 +1,22 @@
 //! What stands in a finished code at a place.
 
-ghost use Rattle.std.specs.Prelude.{◌≡◌, IfOk, Some};
-ghost use Rattle.prg_code.specs.Bindings.{slot_named};
+ghost use Rattle.std.specs.Prelude.{◌≡◌, IfOk};
 ghost use Rattle.prg_expr.specs.Tree.{tree_of};
-ghost use Rattle.prg_laid.specs.Acts as acts;
-ghost use Rattle.prg_laid.specs.Layout.{laying, scope_in, Knows, ExprLaid, Means, NameLaid};
+ghost use Rattle.prg_commands.specs.Acts as acts;
+ghost use Rattle.prg_commands.specs.Layout.{scope_in, Knows, ExprLaid};
+ghost use Rattle.prg_laid.specs.Layout.{laying};
 ghost use Rattle.prg_values.specs.Placed.{InstrStands, Leaves};
 ghost use Rattle.prg_values.specs.Readings.{scoped};
 ghost use Rattle.prg_values.specs.Written.{whole_as_value};
 
-use crate::fault::{FoundLaid, LayoutFault};
+use crate::fault::{FoundLaid, OTHERWISE};
 use crate::known::KnownStates;
-use code_items::{Declared, Instr, Name, State};
+use code_items::{Declared, Instr, State};
 use code_rules::blocks::Block;
 use fixed_num::Num;
 use prg_code::Names;
 use prg_expr::Expr;
-use prg_values::{Finished, Given, Reading, Scope, behind, behind_constant, given_at, read_name};
+use prg_values::{Finished, Given, Scope, behind, behind_constant, given_at};
 use std::alloc::Global;
 use xvalue::{Kind, Value};
 
@@ -32,25 +32,18 @@ pub struct Layout<'a> {
     pub filters: &'a [Block],
 }
 
-/// What reads a name, and the place behind that.
-#[derive(Clone, Copy)]
-pub struct NameRead {
-    pub reading: Reading,
-    pub end: usize,
-}
-
 /// The place behind the instruction, if it stands at this place.
 pub fn after(l: &Layout, place: usize, instr: Instr) -> FoundLaid<usize>
     ensures { IfOk result (λ b. InstrStands (laying l.now).text place instr b) }
 {
-    behind(&l.text, place, instr).ok_or(LayoutFault::Otherwise)
+    behind(&l.text, place, instr).ok_or(OTHERWISE)
 }
 
 /// What is known before the place.
 pub fn known<'a>(l: &'a Layout, place: usize) -> FoundLaid<&'a State>
     ensures { IfOk result (λ s. Knows (laying l.now) place s.now) }
 {
-    l.known.get(place).ok_or(LayoutFault::Otherwise)
+    l.known.get(place).ok_or(OTHERWISE)
 }
 
 /// What names mean where this is known.
@@ -77,7 +70,7 @@ pub fn given(l: &Layout, place: usize, e: &Expr) -> FoundLaid<Given>
 pub fn given_in(l: &Layout, scope: &Scope, place: usize, e: &Expr) -> FoundLaid<Given>
     ensures { IfOk result (λ g. Leaves (laying l.now).text (scoped scope.now) place (tree_of e.now) g.kind g.end) }
 {
-    given_at(l.alloc, &l.text, scope, place, e)?.ok_or(LayoutFault::Otherwise)
+    given_at(l.alloc, &l.text, scope, place, e)?.ok_or(OTHERWISE)
 }
 
 /// The place behind the expression's code, if that stands at this place and its value is of this kind.
@@ -88,7 +81,7 @@ pub fn given_as(l: &Layout, place: usize, e: &Expr, kind: Kind) -> FoundLaid<usi
     if given.kind == kind {
         Ok(given.end)
     } else {
-        Err(LayoutFault::Otherwise)
+        Err(OTHERWISE)
     }
 }
 
@@ -96,7 +89,7 @@ pub fn given_as(l: &Layout, place: usize, e: &Expr, kind: Kind) -> FoundLaid<usi
 pub fn puts(l: &Layout, place: usize, value: &Value) -> FoundLaid<usize>
     ensures { IfOk result (λ b. acts.ConstantStands (laying l.now) place value.now b) }
 {
-    behind_constant(&l.text, place, value).ok_or(LayoutFault::Otherwise)
+    behind_constant(&l.text, place, value).ok_or(OTHERWISE)
 }
 
 /// The same for the number 1.
@@ -104,31 +97,4 @@ pub fn puts_one(l: &Layout, place: usize) -> FoundLaid<usize>
     ensures { IfOk result (λ b. acts.ConstantStands (laying l.now) place (whole_as_value 1) b) }
 {
     puts(l, place, &Value::Number(Num::from(1u32)))
-}
-
-/// What the name means before the place.
-fn meaning(l: &Layout, place: usize, name: &Name) -> FoundLaid<Reading>
-    ensures { IfOk result (λ r. Means (laying l.now) place name.now.items r) }
-{
-    let state = known(l, place)?;
-    match read_name(&scope_of(l, state, false), name) {
-        Ok(reading) => Ok(reading),
-        Err(_) => Err(LayoutFault::Otherwise),
-    }
-}
-
-/// What reads the name, if that stands at this place.
-pub fn named(l: &Layout, place: usize, name: &Name) -> FoundLaid<NameRead>
-    ensures { IfOk result (λ n. NameLaid (laying l.now) place name.now.items n.reading n.end) }
-{
-    let reading = meaning(l, place, name)?;
-    let end = after(l, place, reading.instr)?;
-    Ok(NameRead { reading, end })
-}
-
-/// The slot of the variable of this name, if there is one.
-pub fn slot_of(l: &Layout, name: &Name) -> FoundLaid<u8>
-    ensures { IfOk result (λ slot. slot_named (laying l.now).names name.now.items ≡ Some slot) }
-{
-    l.names.slot(name).ok_or(LayoutFault::Otherwise)
 }

@@ -2,16 +2,13 @@
 //! before, and each jump leads to the part that the command's form names.
 #![tactic(auto)]
 
-mod areas;
+mod checker;
 mod control;
 mod fault;
+mod filters;
 mod judging;
 mod known;
 mod layout;
-mod records;
-mod screen;
-mod statement;
-mod variables;
 mod way;
 
 pub use crate::fault::LayoutFault;

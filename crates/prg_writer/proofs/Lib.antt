@@ -1,5 +1,4 @@
 mod Adding
-mod Behind
 mod FaultLines
 mod GivingUp
 mod NamedBy

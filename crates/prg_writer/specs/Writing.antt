@@ -107,22 +107,6 @@ pub record IsBackAt (mark : WrittenMark) (known : State) (earlier later : Writer
   pub names : later.work.names ≡ mark.names
   pub exit : later.work.exit ≡ mark.exit
 
--- a mark that is behind what this output has
-pub record IsMarkBehind (base : Output) (mark : WrittenMark) : Type 0 where
-  pub constants : length base.pool ≤ mark.constants
-  pub lists : length base.lists ≤ mark.lists
-  pub filters : length base.filters ≤ mark.filters
-  pub slots : base.slots ≤ mark.slots
-  pub century : base.century ≡ true → mark.century ≡ true
-
-abbrev pub IsBegunBehind : Output → Begun → Type 0
-IsBegunBehind base begun = IsMarkBehind base begun.mark
-
--- what stood in an output stands there still, if it stood before the mark
-abbrev pub KeepsOutput : WrittenMark → Output → Output → Type 0
-KeepsOutput mark earlier later =
-    (base : Output) → IsMarkBehind base mark → OutputGrows base earlier → OutputGrows base later
-
 -- ---- copies and loops
 
 -- a copy of which nothing is written yet goes behind the others

@@ -35,7 +35,7 @@ fn is_head(w: &Writer, line: usize, head: &LoopHead) -> bool {
         && is_wider(&w.work.block.state, &head.entry)
 }
 
-fn found<'a>(w: &'a Writer, line: usize) -> Option<&'a LoopHead> {
+fn found<'a>(w: &'a Writer<'_>, line: usize) -> Option<&'a LoopHead> {
     let mut last = None;
     for head in &w.heads {
         if is_head(w, line, head) {
@@ -45,7 +45,7 @@ fn found<'a>(w: &'a Writer, line: usize) -> Option<&'a LoopHead> {
     last
 }
 
-impl Writer {
+impl Writer<'_> {
     /// What is known at the head of the loop that begins in this line: what is known here, without what an earlier
     /// round lost.
     pub fn known_at_head(&self, line: usize) -> Result<State, AllocError>

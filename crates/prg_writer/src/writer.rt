@@ -2,8 +2,6 @@
 
 ghost use Rattle.std.specs.Prelude.{◌≡◌, [], ◌∷◌, ◌++◌, None, Ok, Err, false, is_some, map, option_map, take};
 ghost use Rattle.std.specs.Prelude.{IfOk, IfErr, IfSome, OnOk, MatchResult};
-ghost use Rattle.prg_code.specs.declared.work.Output.{Output as AnyOutput};
-ghost use Rattle.prg_code.specs.Growth.{OutputGrows};
 ghost use Rattle.prg_code.specs.Parts.{told_at};
 ghost use Rattle.prg_code.specs.declared.fault.CompileError.TheVariants as error;
 ghost use Rattle.prg_code.specs.declared.fault.CompileRefusal.TheVariants as refusal;
@@ -12,7 +10,6 @@ ghost use Rattle.prg_parser.specs.Commands.{command_of};
 ghost use Rattle.prg_writer.specs.Writing.{commands_in, last_line_in, AreParameters};
 ghost use Rattle.prg_writer.specs.Writing.{parameters_said as said, parameters_named as named};
 ghost use Rattle.prg_writer.specs.Writing.{IsMark, IsBegun, IsBackAt, IsOpened};
-ghost use Rattle.prg_writer.specs.Writing.{IsMarkBehind, IsBegunBehind, KeepsOutput};
 
 use crate::fault_list::FaultList;
 use crate::heads::LoopHead;
@@ -62,8 +59,10 @@ pub struct ProcedureCopy {
 
 /// All that is written so far.
 #[derive(Drop)]
-pub struct Writer {
+pub struct Writer<'a> {
     pub alloc: Global,
+    /// The tables and indexes that are declared.
+    pub shape: &'a Shape,
     pub out: Output,
     /// The copy that is being written.
     pub work: Work,
@@ -191,7 +190,6 @@ fn cut_output(out: &mut Output, mark: &WrittenMark)
     ensures filters { out.new.filters ≡ take mark.now.filters out.old.filters }
     ensures slots { out.new.slots ≡ mark.now.slots }
     ensures century { out.new.century ≡ mark.now.century }
-    ensures behind { KeepsOutput mark.now out.old out.new }
 {
     out.pool.cut(mark.constants);
     out.lists.cut(mark.lists);
@@ -200,19 +198,9 @@ fn cut_output(out: &mut Output, mark: &WrittenMark)
     out.century = mark.century;
 }
 
-impl Writer {
+impl<'a> Writer<'a> {
     /// How much is written.
-    #[tactic(auto, using(crate::proofs::Behind::marked))]
     pub fn mark(&self) -> Result<WrittenMark, AllocError>
-        ensures is { IfOk result (IsMark self.now) }
-        // It is behind all that stands.
-        ensures behind { (base : AnyOutput) → OutputGrows base self.now.out → IfOk result (IsMarkBehind base) }
-    {
-        let mark = self.marked()?;
-        Ok(mark)
-    }
-
-    fn marked(&self) -> Result<WrittenMark, AllocError>
         ensures { IfOk result (IsMark self.now) }
     {
         Ok(WrittenMark {
@@ -234,8 +222,6 @@ impl Writer {
     /// Gives up what was written since, and goes on with what is known now.
     pub fn give_up(&mut self, mark: &WrittenMark, known: &State) -> Result<(), AllocError>
         ensures back { OnOk result (IsBackAt mark.now known.now self.old self.new) }
-        // What stood before the mark still stands, also where memory is refused.
-        ensures behind { KeepsOutput mark.now self.old.out self.new.out }
     {
         let state = known.copied(self.alloc)?;
         self.work.block.cut(mark.pieces, mark.labels, state);
@@ -281,8 +267,6 @@ impl Writer {
     pub fn begun(&self) -> Result<Option<Begun>, AllocError>
         ensures there { IfOk result (λ begun. is_some begun ≡ is_some self.now.listed) }
         ensures begun { IfOk result (λ begun. IfSome begun (IsBegun self.now)) }
-        ensures behind { (base : AnyOutput) → OutputGrows base self.now.out
-            → IfOk result (λ begun. IfSome begun (IsBegunBehind base)) }
     {
         if self.listed.is_none() {
             return Ok(None);
@@ -326,9 +310,6 @@ impl Writer {
     ) -> Result<bool, CompileRefusal>
         ensures ok { OnOk outcome ((result ≡ Ok false) × (self.new ≡ self.old)) }
         ensures told { self.old.listed ≡ None → IfErr outcome (λ e. result ≡ Err e) }
-        // What stood before the command still stands.
-        ensures behind { (base : AnyOutput) → IfSome begun.now (IsBegunBehind base)
-            → OutputGrows base self.old.out → OutputGrows base self.new.out }
     {
         if outcome.is_ok() {
             return Ok(false);
@@ -364,7 +345,12 @@ impl Writer {
     }
 
     /// Nothing yet but this copy, of which nothing is written, and the procedures that calls may name.
-    pub fn new(alloc: Global, work: Work, procedures: NamedProcedures) -> Writer
+    pub fn new(
+        alloc: Global,
+        shape: &'a Shape,
+        work: Work,
+        procedures: NamedProcedures,
+    ) -> Writer<'a>
         ensures out { result.out ≡ record {
           pool = [];
           lists = [];
@@ -373,6 +359,7 @@ impl Writer {
           highest = 0;
           century = false;
         } }
+        ensures shape { result.shape.now ≡ shape.now }
         ensures work { result.work ≡ work }
         ensures copies { result.copies.items ≡ [] }
         ensures procedures { result.procedures ≡ procedures }
@@ -382,6 +369,7 @@ impl Writer {
     {
         Writer {
             alloc,
+            shape,
             out: Output::new(alloc),
             work,
             copies: Vec::new(alloc),

@@ -2,7 +2,7 @@ use Rattle.std.proofs.Common.{rules, [], Option, sym, ap, ◌∙◌, subst, opti
 use Rattle.prg_expr.specs.Tree.{tree_of}
 use Rattle.prg_parser.specs.Commands.{Cmd, commands_of, part_of, form_command}
 use Rattle.prg_parser.specs.declared.command.Branch.{Branch}
-use Rattle.prg_laid.specs.Acts.{names_of}
+use Rattle.prg_commands.specs.Acts.{names_of}
 use Rattle.prg_laid.specs.Commands.{Laid, LaidAll, LaidPart, absent, either_way}
 use Rattle.prg_laid.specs.Layout.{laying}
 use Rattle.prg_laid.specs.declared.way.Way.{Way}

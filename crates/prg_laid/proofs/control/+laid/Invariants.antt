@@ -1,6 +1,6 @@
 use Rattle.std.proofs.Common.{◌≡◌, true, false, [], drop}
 use Rattle.prg_parser.specs.Commands.{Part, commands_of, cases_of}
-use Rattle.prg_laid.specs.Acts.{names_of}
+use Rattle.prg_commands.specs.Acts.{names_of}
 use Rattle.prg_laid.specs.Choices.{Told, is_absent}
 use Rattle.prg_laid.specs.Commands.{LaidAll, LaidCases, then_way, either_way}
 use Rattle.prg_laid.specs.Layout.{laying}
