@@ -1,5 +1,5 @@
 -- What is written, and what is given up.
-use Rattle.std.specs.Prelude.{◌≡◌, ℕ, ◌-◌, ◌≤◌, true, false, ◌⊎◌, List, [], ◌∷◌, ◌++◌, Option, Some, None}
+use Rattle.std.specs.Prelude.{◌≡◌, ℕ, ◌-◌, true, false, ◌⊎◌, List, [], ◌∷◌, ◌++◌, Option, Some, None}
 use Rattle.std.specs.Prelude.{take, length, map, slice_get}
 use Rattle.std.specs.Option.{option_map_or}
 use Rattle.arrayvec.specs.ArrayVec.{ArrayVec}
@@ -10,7 +10,6 @@ use Rattle.prg_parser.specs.Commands.{Cmd, Single, command_of}
 use Rattle.prg_parser.specs.declared.command.Command.{Command}
 use Rattle.prg_parser.specs.declared.program.Program.{Program}
 use Rattle.prg_code.specs.Bindings.{NamedVariables}
-use Rattle.prg_code.specs.declared.work.Output.{Output}
 use Rattle.prg_code.specs.Growth.{OutputGrows}
 use Rattle.prg_code.specs.Numbers.{Grows}
 use Rattle.prg_code.specs.Merging.{merged_state}

@@ -1,4 +1,4 @@
-use Rattle.std.proofs.Common.{◌≡◌, ℕ, List, ◌++◌, map, length}
+use Rattle.std.proofs.Common.{ℕ, List, ◌++◌, map, length}
 use Rattle.std.specs.List.{AllZip}
 use Rattle.prg_line.specs.Act.{letters_of}
 use Rattle.prg_commands.specs.Acts.{NamesIndex}
