@@ -185,16 +185,20 @@ names_at (word.Name name ∷ word.Comma ∷ ws) = take 10 name ∷ names_at ws
 names_at (word.Name name ∷ ws) = take 10 name ∷ []
 names_at ws = []
 
+-- one command opens at most seven indexes
+abbrev pub opened_at : List Word → List (List ℕ)
+opened_at ws = take 7 (names_at ws)
+
 -- after USE and a table: the names that follow INDEX
 unfoldable pub used_by : List Word → SaidOfIndexes
 used_by [] = Nothing
-used_by (word.Name s ∷ ws) = if is_cut s (codes "INDEX") then Opens (names_at ws) else used_by ws
+used_by (word.Name s ∷ ws) = if is_cut s (codes "INDEX") then Opens (opened_at ws) else used_by ws
 used_by (w ∷ ws) = used_by ws
 
 -- after SET
 unfoldable pub set_by : List Word → SaidOfIndexes
 set_by (word.Name index ∷ word.Name to ∷ ws) =
-    if is_cut index (codes "INDEX") && is_cut to (codes "TO") then Opens (names_at ws) else Nothing
+    if is_cut index (codes "INDEX") && is_cut to (codes "TO") then Opens (opened_at ws) else Nothing
 set_by ws = Nothing
 
 abbrev pub used_behind : List Word → SaidOfIndexes

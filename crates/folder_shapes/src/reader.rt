@@ -14,6 +14,9 @@ use std::alloc::{AllocError, Global};
 /// The most blocks that are open in one another.
 const MOST_BLOCKS: usize = 32;
 
+/// The most indexes that one command opens.
+const MOST_OPENED: usize = 7;
+
 /// The table that the last line on work areas chose.
 #[derive(Drop)]
 pub struct InUse {
@@ -247,12 +250,14 @@ fn put_names(names: &mut Vec<Name>, words: &[Token<'_>]) -> Result<(), AllocErro
     }
 }
 
-/// The names at the front of these words.
-fn names_at(alloc: Global, words: &[Token<'_>]) -> Result<Said, AllocError>
-    ensures { IfOk result (λ said. spec.says_of said ≡ spec.Opens (spec.names_at (words_of words.now))) }
+/// The names at the front of these words, no more than one command opens.
+#[tactic(auto, using(crate::proofs::AnyLemmas::take_of_map))]
+fn opened_at(alloc: Global, words: &[Token<'_>]) -> Result<Said, AllocError>
+    ensures { IfOk result (λ said. spec.says_of said ≡ spec.Opens (spec.opened_at (words_of words.now))) }
 {
     let mut names = Vec::new(alloc);
     put_names(&mut names, words)?;
+    names.truncate(MOST_OPENED);
     Ok(Said::Opens(names))
 }
 
@@ -265,7 +270,7 @@ fn used_by(alloc: Global, words: &[Token<'_>]) -> Result<Said, AllocError>
         return Ok(Said::Nothing);
     };
     match word {
-        Token::Name(name) if is_word(*name, b"INDEX") => names_at(alloc, others),
+        Token::Name(name) if is_word(*name, b"INDEX") => opened_at(alloc, others),
         _ => used_by(alloc, others),
     }
 }
@@ -278,7 +283,7 @@ fn set_by(alloc: Global, words: &[Token<'_>]) -> Result<Said, AllocError>
     match words {
         [Token::Name(index), Token::Name(to), names @ ..] => {
             if is_word(*index, b"INDEX") && is_word(*to, b"TO") {
-                return names_at(alloc, names);
+                return opened_at(alloc, names);
             }
             Ok(Said::Nothing)
         }
