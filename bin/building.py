@@ -56,6 +56,8 @@ NEEDED = ["toolchain/bin/clang", "toolchain/bin/ld.lld", *FIRST, *LAST]
 # Linux's call that has a process sent a signal when the one that started it ends, and its word for that.
 PRCTL, SIGNAL_OF_PARENTS_DEATH = ctypes.CDLL(None).prctl, 1
 BUILDER = os.getpid()
+# The signals that have asked a build to end.
+INTERRUPTS = []
 
 
 class Failed(Exception):
@@ -341,13 +343,17 @@ def running(words, **how):
     how = {"stdin": subprocess.DEVNULL, "start_new_session": True, "preexec_fn": end_with_builder, **how}
     with subprocess.Popen(words, **how) as child:
         try:
+            if INTERRUPTS:
+                raise KeyboardInterrupt
             yield child
         finally:
             with contextlib.suppress(ProcessLookupError):
                 os.killpg(child.pid, signal.SIGKILL)
 
 
-def interrupt(*_):
+def interrupt(number, _):
+    """Ends a build. (Python drops what is raised just after a fork, so the signal is noted too.)"""
+    INTERRUPTS.append(number)
     raise KeyboardInterrupt
 
 
@@ -365,7 +371,7 @@ def end_with(build, interrupted, instead=""):
     """Runs a build, and ends with its status; a failure is told in one line, and what may be done instead. A signal
     that the caller ignores stays ignored, as a hangup under nohup. Help is told in place of a build."""
     answer_help()
-    for it in (signal.SIGTERM, signal.SIGHUP):
+    for it in (signal.SIGINT, signal.SIGTERM, signal.SIGHUP):
         if signal.getsignal(it) != signal.SIG_IGN:
             signal.signal(it, interrupt)
     try:

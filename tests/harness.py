@@ -127,13 +127,17 @@ def verdict(passed, failed, skipped=0):
     return 1 if failed else 0
 
 
+def show(text):
+    """Prints lines at once, also where several threads print."""
+    sys.stdout.write(f"{text}\n")
+    sys.stdout.flush()
+
+
 def may_skip(test, lacking):
     """Whether a test that lacks a tool or a right is skipped, which is printed, or fails."""
-    if ALL_TOOLS in os.environ:
-        print(f"{test}: it needs {lacking}", flush=True)
-        return False
-    print(f"skipped: {test}: {lacking}", flush=True)
-    return True
+    is_skipped = ALL_TOOLS not in os.environ
+    show(f"skipped: {test}: {lacking}" if is_skipped else f"{test}: it needs {lacking}")
+    return is_skipped
 
 
 def end_if_lacking(part, *needs):
