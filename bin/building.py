@@ -387,4 +387,6 @@ def end_with(build, interrupted, instead=""):
 
 if __name__ == "__main__":
     answer_help()
-    sys.exit(not is_current(*sys.argv[1:2]))
+    if sys.argv[1:] not in ([it] for it in KINDS):
+        sys.exit("dbrun: usage: bin/building.py proved|unproved")
+    sys.exit(not is_current(sys.argv[1]))

@@ -7,7 +7,6 @@ room=$(mktemp -d) || exit 1
 trap 'rm -rf "$room"' EXIT
 passed=0
 failed=0
-skipped=0
 
 passes() { passed=$((passed + 1)); }
 
@@ -67,6 +66,6 @@ $code" "$@"
 }
 
 verdict() {
-    in_harness 'sys.exit(harness.verdict(*map(int, sys.argv[1:])))' "$passed" "$failed" "$skipped"
+    in_harness 'sys.exit(harness.verdict(*map(int, sys.argv[1:])))' "$passed" "$failed"
     exit
 }

@@ -150,10 +150,10 @@ def end_if_lacking(part, *needs):
 
 
 class Count:
-    """How many tries passed, failed and were skipped."""
+    """How many tries passed, and how many failed."""
 
     def __init__(self):
-        self.passed = self.failed = self.skipped = 0
+        self.passed = self.failed = 0
 
     def holds(self, so, what):
         """Counts a try, and prints what was found where it failed."""
@@ -166,14 +166,5 @@ class Count:
     def is_same(self, what, found, wanted):
         self.holds(found == wanted, f"{what}: {str(found)[:300]}, not {str(wanted)[:300]}")
 
-    def has(self, test, *needs):
-        """Whether this machine has the tools and rights that a test needs. If not, the test is skipped or fails."""
-        lacking = lacks(*needs)
-        if lacking and may_skip(test, lacking):
-            self.skipped += 1
-        elif lacking:
-            self.failed += 1
-        return not lacking
-
     def verdict(self):
-        return verdict(self.passed, self.failed, self.skipped)
+        return verdict(self.passed, self.failed)
