@@ -207,8 +207,9 @@ fn rehearse_accepted<F: Files, W: Watcher>(
     ensures kept { SameFiles (F.holds files.old) (F.holds files.new) }
     ensures counted { F.failed files.old ≤ F.failed files.new }
 {
+    let declared = &verified.code().declared;
     match compare_accepted(alloc, files, verified, job, watcher) {
-        Ok(done) => told_of(alloc, &verified.code().declared, done),
+        Ok(done) => told_of(alloc, declared, done),
         Err(refusal) => Err(refusal),
     }
 }
