@@ -216,7 +216,7 @@ fn further(
 
 /// The faults that a writer has listed.
 fn listed(w: Writer) -> Vec<CompileFault>
-    ensures { IfSome w.listed (λ list. result.items ≡ list.others) }
+    ensures { IfSome w.entry.listed (λ list. result.items ≡ list.others) }
 {
     let Writer { alloc, listed, .. } = w;
     match listed {
