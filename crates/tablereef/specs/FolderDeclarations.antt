@@ -5,3 +5,7 @@ pub use Rattle.folder_shapes.specs.Owners
 pub use Rattle.folder_shapes.specs.Reading
 pub use Rattle.folder_shapes.specs.Told
 pub use Rattle.folder_shapes.specs.States
+pub use Rattle.folder_shapes.specs.Pages
+pub use Rattle.folder_shapes.specs.Programs
+pub use Rattle.folder_shapes.specs.Proposals
+pub use Rattle.folder_shapes.specs.Folder
