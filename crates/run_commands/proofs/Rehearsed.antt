@@ -12,7 +12,7 @@ use Rattle.run_commands.specs.declared.rehearsing.Compared.{Compared}
 use Rattle.run_commands.specs.declared.machines.Run.{Run}
 use Rattle.run_commands.specs.declared.rehearsing.Rehearsal.{Rehearsal}
 use Rattle.run_commands.specs.Parts.{IsOfTables, CodeRefused}
-use Rattle.run_commands.specs.Rehearsals.{LeavesTables, IsLongest, IsRehearsed, IsToldAs}
+use Rattle.run_commands.specs.Rehearsals.{LeavesTables, IsLongestFilter, IsRehearsed, IsToldAs}
 use Rattle.run_commands.specs.Reports.{MayLoad, IsTold}
 use Rattle.run_commands.proofs.Ran.{left_soundly}
 use Rattle.run_commands.proofs.Same.{loaded_same}
@@ -120,7 +120,7 @@ rehearsed_from a job code seen done lent may (Ok told) h leaves = record {
   indexes =
       subst (λ (s : Code). told.indexes.items ≡ map (λ (x : IndexShape). x.name) s.declared.shape.indexes) lent
       h.indexes;
-  longest = subst (λ (s : Code). IsLongest s.declared.filters told.longest_filter) lent h.longest;
+  longest = subst (λ (s : Code). IsLongestFilter s.declared.filters told.longest_filter) lent h.longest;
 }
 rehearsed_from a job code seen done lent may (Err refusal) h leaves = h
 

@@ -27,7 +27,7 @@ pub record LeavesTables (holds : Holds) (job : Job) (code : Code) (outcome : Out
   pub changed : AreChanges code.declared.shape store tables changes
 
 -- how many instructions the longest filter has; 0 if there is no filter
-pub record IsLongest (filters : List Filter) (length : ℕ) : Type 0 where
+pub record IsLongestFilter (filters : List Filter) (length : ℕ) : Type 0 where
   pub most : All (λ (f : Filter). f.length ≤ length) filters
   pub reached : (length ≡ 0) ⊎ Contains (map (λ (f : Filter). f.length) filters) length
 
@@ -38,7 +38,7 @@ pub record IsToldAs (declared : Declared) (done : Compared) (told : Rehearsal) :
   pub changes : told.changes ≡ done.changes
   pub tables : told.tables.items ≡ map (λ t. t.name) declared.shape.tables
   pub indexes : told.indexes.items ≡ map (λ x. x.name) declared.shape.indexes
-  pub longest : IsLongest declared.filters told.longest_filter
+  pub longest : IsLongestFilter declared.filters told.longest_filter
 
 -- what is told is such a run, of a code that may run as the job says
 pub record IsRehearsed (holds : Holds) (job : Job) (told : Rehearsal) (code : Code) : Type 0 where
@@ -48,4 +48,4 @@ pub record IsRehearsed (holds : Holds) (job : Job) (told : Rehearsal) (code : Co
   pub ended : IsTold code.declared.shape outcome told.ended
   pub tables : told.tables.items ≡ map (λ t. t.name) code.declared.shape.tables
   pub indexes : told.indexes.items ≡ map (λ x. x.name) code.declared.shape.indexes
-  pub longest : IsLongest code.declared.filters told.longest_filter
+  pub longest : IsLongestFilter code.declared.filters told.longest_filter

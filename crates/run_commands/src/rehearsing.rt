@@ -6,7 +6,7 @@ ghost use Rattle.file_access.specs.Holding.{Rose, SameFiles};
 ghost use Rattle.file_commands.specs.Reports.{HasCode};
 ghost use Rattle.run_commands.specs.declared.refusal.RunRefusal.TheVariants.{Memory};
 ghost use Rattle.run_commands.specs.Parts.{IsOfTables, CodeRefused};
-ghost use Rattle.run_commands.specs.Rehearsals.{IsLongest, IsRehearsed, IsToldAs, LeavesTables};
+ghost use Rattle.run_commands.specs.Rehearsals.{IsLongestFilter, IsRehearsed, IsToldAs, LeavesTables};
 ghost use Rattle.run_commands.specs.Reports.{RefusedBefore};
 
 use crate::ending::{Ended, ended_of, put_name};
@@ -142,7 +142,7 @@ fn compare_accepted<F: Files, W: Watcher>(
 
 /// How many instructions the longest of these filters has; 0 if there is none.
 fn longest(filters: &[Filter]) -> u16
-    ensures { IsLongest filters.now result }
+    ensures { IsLongestFilter filters.now result }
 {
     filters
         .iter()
