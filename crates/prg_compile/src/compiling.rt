@@ -24,7 +24,11 @@ const MAIN: Target = Target {
 };
 
 /// The main procedure as the first copy, of which nothing is written yet.
-fn begun<'a>(alloc: Global, programs: &[Program], shape: &'a Shape) -> Result<Writer<'a>, AllocError> {
+fn begun<'a>(
+    alloc: Global,
+    programs: &[Program],
+    shape: &'a Shape,
+) -> Result<Writer<'a>, AllocError> {
     let procedures = NamedProcedures::of(alloc, programs)?;
     let block = DraftBlock::main(alloc)?;
     let work = Work::new(alloc, 0, true, block, Names::new(alloc));
