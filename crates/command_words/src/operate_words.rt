@@ -99,14 +99,15 @@ pub struct OperateWords<'a> {
 
 /// What help says of the budget and the day of a conversation.
 const HELP: RunHelp<'static> = RunHelp {
-    budget: "The most steps that the run may take, below 2^64 (default: 1000000; at a terminal, the greatest)",
+    budget: "The most that the run may cost, below 2^64 (default: 1000000; at a terminal, the greatest)",
     today: "The date of the run, in the years 1900 to 2155 (default: the computer's, in the time zone of TZ)",
 };
 
 /// How a session ends, and an example.
 const OPERATE_FURTHER: &str = "\
-A session that ends early, because the budget is spent, a table is full or memory is short, saves what it did until
-then. --only-finished saves nothing in that case, --rehearse saves nothing at all, and --backup keeps the old files.
+A session that ends early, because the budget is spent, a table is full or memory is refused during the run, saves what
+it did until then. --only-finished saves nothing in that case, --rehearse saves nothing at all, and --backup keeps the
+old files.
 
 Example (after compile): dbrun operate DAY.XBC --journal MONDAY.TXT";
 

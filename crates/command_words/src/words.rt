@@ -160,9 +160,9 @@ Exit status:
 
 /// What `run` says of runs that end early, and an example.
 const RUN_FURTHER: &str = "\
-A run that ends early, because the budget is spent, a table is full or memory is short, saves what it did until then.
---only-finished saves nothing in that case, --rehearse saves nothing at all, and --backup keeps the old files. The
-budget counts steps, not seconds: use timeout 60 dbrun run .. to bound the time.
+A run that ends early, because the budget is spent, a table is full or memory is refused during the run, saves what it
+did until then. --only-finished saves nothing in that case, --rehearse saves nothing at all, and --backup keeps
+the old files. The budget counts steps, not seconds: use timeout 60 dbrun run .. to bound the time.
 
 Example (after compile): dbrun run DAY.XBC --today 1985-01-15 < day.txt";
 
@@ -269,7 +269,7 @@ pub(crate) struct RunHelp<'a> {
 
 /// What it says of runs that take all lines beforehand.
 const HELP: RunHelp<'static> = RunHelp {
-    budget: "The most steps that the run may take, below 2^64 (default: 1000000)",
+    budget: "The most that the run may cost, below 2^64 (default: 1000000)",
     today: "The date of the run, in the years 1900 to 2155 (default: 1985-01-01)",
 };
 
@@ -509,7 +509,7 @@ fn declarer<'a>(alloc: Global) -> Command<'a>
     made(
         alloc,
         "declare",
-        "Prints a declaration file for the tables and indexes in the current folder",
+        "Prints a declaration file for the current folder, and proposes indexes that its command files name",
         "Example: dbrun declare > MADE.DCL",
     )
 }
