@@ -44,14 +44,14 @@ def typed_at_a_terminal(tries, words, lines, program=None, kind="xterm"):
 
 def drawings_in(told):
     """The drawings in what a terminal was sent."""
-    # what is typed then comes behind the order that puts the cursor in its place
+    # what is typed then comes after the order that puts the cursor in its place
     found = (re.match(rb"(?s).*?\x1b\[\d+;\d+H(?!\x1b\[2K|\x1b\[J|\n)", it) for it in told.split(b"\x1b[0m\x1b[H")[1:])
     return [it[0] for it in found if it]
 
 
 def laid(sent):
-    """What stands on a terminal of 30 rows and 80 columns behind a drawing, which of it is in reverse, and where the
-    cursor is. The terminal wraps late: behind a full line it is in the last column."""
+    """The rows of a terminal of 30 rows and 80 columns after a drawing, which parts are in reverse, and where the cursor
+    is. The terminal wraps late: after a full line the cursor is in the last column."""
     rows, marks = [[" "] * 80 for _ in range(30)], set()
     row = column = 0
     reverse = False

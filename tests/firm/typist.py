@@ -74,7 +74,7 @@ class Typist(harness.Count):
 
 
 def with_mistakes(lines, *mistakes):
-    """The lines, each behind its mistakes."""
+    """The lines, each after its mistakes."""
     return [it for number, line in enumerate(lines) for it in (*sum((of[number] for of in mistakes), []), line)]
 
 
