@@ -70,10 +70,11 @@ impl<'a, R: Runtime<A = Global, File = File>> Meter<'a, R> {
 }
 
 impl<R: Runtime<A = Global, File = File>> Watcher for Meter<'_, R> {
+    fn is_watching(&self) -> bool {
+        self.audience.person
+    }
+
     fn hear(&mut self, steps: u64, budget: u64) -> u64 {
-        if !self.audience.person {
-            return budget;
-        }
         let Ok(now) = Instant::now(self.rt) else {
             return budget;
         };

@@ -1,3 +1,4 @@
 pub mod TurnLemmas
 pub mod AnswerLemmas
 pub mod PieceLemmas
+pub mod PartLemmas

@@ -15,7 +15,7 @@ use Rattle.operating.specs.declared.silence.QuietTurn.TheVariants.{Over, On}
 use Rattle.operating.specs.Pieces.{PieceReaches, PieceGoes, IsEndOf, LeadsTo, Stood, QuietTurned, IsFurther}
 use Rattle.operating.specs.Talks.{Talked, ComesTo}
 use Rattle.operating.proofs.TurnLemmas.{Pieces}
-use Rattle.run_parts.specs.Parts.{RunsTo}
+use Rattle.operating.specs.Parts.{RunsTo}
 use Rattle.run_steps.specs.declared.ending.End.{End}
 use Rattle.run_steps.specs.declared.ending.End.TheVariants.{Spent}
 use Rattle.run_steps.specs.declared.ending.Outcome.{Outcome}
@@ -27,7 +27,7 @@ use Rattle.run_steps.specs.Run.{after, spent, Ran}
 use Rattle.run_steps.specs.World.{World}
 use Rattle.text_lines.specs.Lines.{short_lines}
 use Rattle.work_area.specs.Areas.{StoreState}
-use Rattle.run_parts.proofs.PartLemmas.{Whole}
+use Rattle.operating.proofs.PartLemmas.{Whole}
 
 -- ---- what the laws say
 

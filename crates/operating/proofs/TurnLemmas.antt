@@ -10,7 +10,7 @@ use Rattle.operating.specs.declared.talking.Turn.{Turn}
 use Rattle.operating.specs.declared.talking.Turn.TheVariants.{Over}
 use Rattle.operating.specs.Pieces.{PieceReaches}
 use Rattle.operating.specs.Talks.{Talked, ComesTo, Turned, TookLine}
-use Rattle.run_parts.specs.Parts.{RunsTo}
+use Rattle.operating.specs.Parts.{RunsTo}
 use Rattle.run_steps.specs.declared.ending.Outcome.{Outcome}
 use Rattle.run_steps.specs.Opening.{opening}
 use Rattle.run_steps.specs.Pausing.{Came, with_more}

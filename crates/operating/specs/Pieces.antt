@@ -8,7 +8,7 @@ use Rattle.operating.specs.declared.pieces.Piece.TheVariants.{Ended, Waits, Mark
 use Rattle.operating.specs.declared.silence.QuietTurn.{QuietTurn}
 use Rattle.operating.specs.declared.silence.QuietTurn.TheVariants.{Over, On}
 use Rattle.operating.specs.Talks.{ComesTo}
-use Rattle.run_parts.specs.Parts.{RunsTo}
+use Rattle.operating.specs.Parts.{RunsTo}
 use Rattle.run_steps.specs.declared.ending.End.TheVariants.{Spent}
 use Rattle.run_steps.specs.declared.ending.Outcome.{Outcome}
 use Rattle.run_steps.specs.Opening.{opening}

@@ -7,11 +7,11 @@ ghost use Rattle.run_steps.specs.declared.ending.End.TheVariants.{Spent};
 ghost use Rattle.run_steps.specs.declared.pausing.Leg.TheVariants.{Ended};
 ghost use Rattle.std.specs.Prelude.{◌≡◌, ◌<◌, ◌≤◌, true, false};
 
+use crate::laws::greater_budgets_change_no_end;
+use crate::taking::{lesser, wider};
 use key_lists::KeyList;
 use machine::{Banks, Leg, resume_to_line};
 use run_laws::laws::runs_cost_their_steps;
-use run_parts::laws::greater_budgets_change_no_end;
-use run_parts::{lesser, wider};
 use run_steps::{End, Outcome};
 use std::alloc::Global;
 use xverify::Verified;

@@ -7,14 +7,14 @@ ghost use Rattle.operating.specs.Talks.{ComesTo, Talked};
 ghost use Rattle.std.specs.Prelude.{◌≡◌, ◌≤◌, ℕ, List, Option, IfOk};
 ghost use Rattle.work_area.specs.Areas.{StoreState};
 
+use crate::laws::greater_budgets_change_no_end;
 use crate::operator::{Broken, Operator};
 use crate::pieces::{Piece, take_piece};
+use crate::taking::{is_last, take_part};
 use crate::talking::{miss, show};
 use key_lists::KeyList;
 use machine::Banks;
 use run_laws::laws::{parts_make_the_whole, pieces_make_the_whole};
-use run_parts::laws::greater_budgets_change_no_end;
-use run_parts::{is_last, take_part};
 use run_steps::Outcome;
 use std::alloc::Global;
 use xverify::Verified;

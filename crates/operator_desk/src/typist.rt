@@ -196,7 +196,11 @@ impl<R: Runtime<A = Global, File = File>, W: Watcher + Drop> Operator for Typist
     }
 
     fn hear(&mut self, steps: u64, budget: u64) -> u64 {
-        self.watcher.hear(steps, budget)
+        if self.watcher.is_watching() {
+            self.watcher.hear(steps, budget)
+        } else {
+            budget
+        }
     }
 
     fn see(&mut self, _: &Scene<'_>) -> Result<(), OperatorFailed> {

@@ -6,7 +6,7 @@ use Rattle.run_steps.specs.declared.ending.Outcome.{Outcome}
 use Rattle.run_steps.specs.Run.{Ran}
 use Rattle.run_steps.specs.World.{World}
 use Rattle.operating.specs.Pieces.{LeadsTo}
-use Rattle.run_parts.proofs.PartLemmas.{Whole}
+use Rattle.operating.proofs.PartLemmas.{Whole}
 use Rattle.operating.proofs.PieceLemmas.{Wider, same_run}
 
 pub leads_at_once : (code : Code) (w : World) → LeadsTo code w 0 w

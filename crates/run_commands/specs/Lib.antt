@@ -6,3 +6,5 @@ pub mod Parts
 pub mod Rehearsals
 pub mod Reports
 pub mod Runs
+pub mod Sessions
+pub mod SessionLaws

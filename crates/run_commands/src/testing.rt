@@ -8,9 +8,9 @@ ghost use Rattle.work_area.specs.Areas.{AreApart};
 
 use legal_code::LegalCode;
 use ndx_tree::NdxTree;
+use operating::laws::greater_budgets_change_no_end;
+use operating::{RunPart, Watcher, is_last, is_spent, lesser, wider};
 use run_laws::laws::parts_make_the_whole;
-use run_parts::laws::greater_budgets_change_no_end;
-use run_parts::{RunPart, Watcher, is_last, is_spent, lesser, wider};
 use run_steps::Outcome;
 use std::alloc::Global;
 use tagged_machine::{World, run_checked};
@@ -44,7 +44,7 @@ fn test_part(
 }
 
 /// Runs a code, accepted or not, as `tagged_machine::run_checked` does, in parts, as
-/// `run_parts::resume_in_parts` says. The run ends as it does in one part, at the same cost.
+/// `operating::resume_in_parts` says. The run ends as it does in one part, at the same cost.
 pub(crate) fn run_checked_in_parts<W: Watcher>(
     alloc: Global,
     code: &LegalCode,

@@ -1,5 +1,0 @@
-use Rattle.run_parts.proofs.PartLemmas.{ran_wider}
-use Rattle.run_parts.proofs.laws.greater_budgets_change_no_end.Goals as goal
-
-pub returns : goal.returns
-returns c = ran_wider
