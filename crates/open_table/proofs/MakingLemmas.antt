@@ -9,8 +9,9 @@ use Rattle.dbf_file.specs.Rows.{Row}
 use Rattle.dbf_file.specs.Tables.{StructureState}
 use Rattle.key_lists.specs.KeyForm.{IsKeyText}
 use Rattle.shape.specs.Keys.{IsKey}
+use Rattle.key_lists.specs.SortedList.{SortedList}
 use Rattle.row_keys.specs.declared.building.Kept.TheVariants.{Every}
-use Rattle.row_keys.specs.Lists.{IndexState, IsExact, kept_rows}
+use Rattle.row_keys.specs.Lists.{IsExact, kept_rows}
 use Rattle.open_table.specs.Marks.{IndexMark, is_among, is_fresh, mark_at, count_stale, with_stale}
 use Rattle.open_table.specs.Tables.{IndexedState, IsOrder}
 use Rattle.open_table.specs.Slots.{SlotState, mark_of, IsListed, IsSlot, IsSameSlot, Along, is_wanted, PutsBy, Prepares}
@@ -19,6 +20,9 @@ use Rattle.open_table.proofs.SlotLemmas.{same_mark, map_along, along_chain, alon
 
 pub same_slot : (a b : SlotState) → IsSameSlot a b → b.index ≡ a.index → b.fresh ≡ a.fresh → b ≡ a
 same_slot a b s e f = λ i. record { number = s.number i; parts = s.parts i; text = s.text i; index = e i; fresh = f i }
+
+pub same_table : (a b : IndexedState) → a.structure ≡ b.structure → a.rows ≡ b.rows → a.marks ≡ b.marks → a ≡ b
+same_table a b e f g = λ i. record { structure = e i; rows = f i; marks = g i }
 
 -- what was put by is given up
 pub put_back : (s : StructureState) (rows : List Row) (old mid new : List SlotState) → All (IsSlot s rows) old
@@ -35,7 +39,7 @@ put_back s rows old mid new exact puts gone = along_same old new (record {
 })
 
 -- an index after what was put by has taken its place
-made_list : (P : IndexState → Type 0) (wanted gives_up : Bool) (index fresh : Option IndexState)
+made_list : (P : SortedList → Type 0) (wanted gives_up : Bool) (index fresh : Option SortedList)
     → MatchBool wanted (IsSomeAnd fresh P) (fresh ≡ None) → (gives_up ≡ false → IfSome index P)
     → IfSome (cond (is_some fresh) fresh (cond gives_up None index)) P
 made_list P true gives_up index (Some x) f stays = f
@@ -44,7 +48,7 @@ made_list P false true index None f stays = tt
 made_list P false false index None f stays = stays refl
 made_list P false gives_up index (Some x) f stays = cc
 
-stale_after : (P : IndexState → Type 0) (wanted gives_up : Bool) (index fresh : Option IndexState)
+stale_after : (P : SortedList → Type 0) (wanted gives_up : Bool) (index fresh : Option SortedList)
     → MatchBool wanted (IsSomeAnd fresh P) (fresh ≡ None) → is_none
     (cond (is_some fresh) fresh (cond gives_up None index)) ≡ cond wanted false (cond gives_up true (is_none index))
 stale_after P true gives_up index (Some x) f = refl
@@ -60,14 +64,14 @@ module _ (s : StructureState) (rows others : List Row) (numbers : List ℕ) (onl
     key = subst (IsKey s) (sym p.puts.same.parts) h.key;
     text = subst IsKeyText (sym p.puts.same.text) h.text;
     listed = subst (λ i. IfSome (cond (is_some b.fresh) b.fresh (cond gives_up None i))
-        (IsListed (IsExact s others) b.parts b.text)) (sym p.puts.index)
+        (IsListed (IsExact s others b.parts) b.text)) (sym p.puts.index)
         (subst (λ ps. IfSome (cond (is_some b.fresh) b.fresh (cond gives_up None a.index))
-        (IsListed (IsExact s others) ps b.text)) (sym p.puts.same.parts)
+        (IsListed (IsExact s others ps) b.text)) (sym p.puts.same.parts)
         (subst (λ t. IfSome (cond (is_some b.fresh) b.fresh (cond gives_up None a.index))
-        (IsListed (IsExact s others) a.parts t)) (sym p.puts.same.text)
-        (made_list (IsListed (IsExact s others) a.parts a.text) (is_wanted numbers only_stale a) gives_up a.index
+        (IsListed (IsExact s others a.parts) t)) (sym p.puts.same.text)
+        (made_list (IsListed (IsExact s others a.parts) a.text) (is_wanted numbers only_stale a) gives_up a.index
         b.fresh p.fresh
-        (λ stays. subst (λ rs. IfSome a.index (IsListed (IsExact s rs) a.parts a.text)) (sym (same stays)) h.listed))));
+        (λ stays. subst (λ rs. IfSome a.index (IsListed (IsExact s rs a.parts) a.text)) (sym (same stays)) h.listed))));
     idle = refl;
   })
 
@@ -90,7 +94,7 @@ module _ (s : StructureState) (rows others : List Row) (numbers : List ℕ) (onl
       (mark_of (committed gives_up b))
       p.puts.same.number p.puts.same.parts p.puts.same.text
       (ap (λ i. is_none (cond (is_some b.fresh) b.fresh (cond gives_up None i))) p.puts.index
-      ∙ stale_after (IsListed (IsExact s others) a.parts a.text) (is_wanted numbers only_stale a) gives_up a.index
+      ∙ stale_after (IsListed (IsExact s others a.parts) a.text) (is_wanted numbers only_stale a) gives_up a.index
       b.fresh p.fresh)
       ∙ sym (is_f a)
 

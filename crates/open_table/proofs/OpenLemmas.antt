@@ -15,6 +15,10 @@ use Rattle.open_table.specs.Marks.{IndexMark, is_among, mark_at, is_fresh, with_
 use Rattle.open_table.specs.Marks.{left_stale, only_fresh, made_fresh}
 use Rattle.std.proofs.lemmas.List.Elements.{All-weaker}
 
+abbrev pub used : List ℕ → ℕ → Option ℕ → Bool → Bool → IndexedState → OpenState
+used list order pointer bof found table =
+    record { table = table; list = list; order = order; pointer = pointer; bof = bof; found = found }
+
 -- each of some numbers is among them
 pub among : (numbers : List ℕ) (k d : ℕ) → k < length numbers → is_among numbers (get_or numbers k d) ≡ true
 among numbers k d lt = list_any_at (λ other. other == get_or numbers k d) numbers k d lt

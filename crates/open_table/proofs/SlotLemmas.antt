@@ -9,7 +9,8 @@ use Rattle.std.specs.Prelude.{IfSome, OnErr}
 use Rattle.dbf_file.specs.Tables.{StructureState}
 use Rattle.key_lists.specs.KeyForm.{KeyForm, IsKeyText}
 use Rattle.shape.specs.Keys.{IsKey}
-use Rattle.row_keys.specs.Lists.{IndexState, IsSameIndex}
+use Rattle.key_lists.specs.SortedList.{SortedList}
+use Rattle.shape.specs.declared.parts.KeyPart.{KeyPart}
 use Rattle.open_table.specs.Marks.{IndexMark, is_among, with_stale}
 use Rattle.open_table.specs.Slots.{SlotState, mark_of, IsListed, IsSlotBy, OnBoth, GoesBy, left_if_open, Along}
 
@@ -49,20 +50,20 @@ same_along f R step (x ∷ xs) (y ∷ ys) along =
 
 -- ---- one index
 
-pub on_both : (P Q : IndexState → Type 0) (R : IndexState → IndexState → Type 0)
-    → ((a b : IndexState) → P a → R a b → Q b) → (a b : Option IndexState) → IfSome a P → OnBoth R a b → IfSome b Q
+pub on_both : (P Q : SortedList → Type 0) (R : SortedList → SortedList → Type 0)
+    → ((a b : SortedList) → P a → R a b → Q b) → (a b : Option SortedList) → IfSome a P → OnBoth R a b → IfSome b Q
 on_both P Q R step None None h r = tt
 on_both P Q R step None (Some b) h r = absurd r
 on_both P Q R step (Some a) None h r = absurd r
 on_both P Q R step (Some a) (Some b) h r = step a b h r
 
-pub both_stale : (R : IndexState → IndexState → Type 0) (a b : Option IndexState) → OnBoth R a b → is_none b ≡ is_none a
+pub both_stale : (R : SortedList → SortedList → Type 0) (a b : Option SortedList) → OnBoth R a b → is_none b ≡ is_none a
 both_stale R None None r = refl
 both_stale R None (Some b) r = absurd r
 both_stale R (Some a) None r = absurd r
 both_stale R (Some a) (Some b) r = refl
 
-pub both_same : (R : IndexState → IndexState → Type 0) → ((a : IndexState) → R a a) → (a : Option IndexState)
+pub both_same : (R : SortedList → SortedList → Type 0) → ((a : SortedList) → R a a) → (a : Option SortedList)
     → OnBoth R a a
 both_same R same None = tt
 both_same R same (Some a) = same a
@@ -71,53 +72,54 @@ pub same_mark : (a b : IndexMark) → b.number ≡ a.number → b.parts ≡ a.pa
     → b ≡ a
 same_mark a b e f g h = λ i. record { number = e i; parts = f i; text = g i; stale = h i }
 
-pub goes_mark : (R : IndexState → IndexState → Type 0) (a b : SlotState) → GoesBy R a b → mark_of b ≡ mark_of a
+pub goes_mark : (R : List KeyPart → SortedList → SortedList → Type 0) (a b : SlotState) → GoesBy R a b → mark_of b ≡ mark_of a
 goes_mark R a b goes = same_mark (mark_of a) (mark_of b) goes.same.number goes.same.parts goes.same.text
-    (both_stale R a.index b.index goes.index)
+    (both_stale (R a.parts) a.index b.index goes.index)
 
 -- the fact of its list goes along
-pub slot_goes : (s : StructureState) (E F : IndexState → Type 0) (R : IndexState → IndexState → Type 0)
-    → ((a b : IndexState) → E a → R a b → F b) → ((a b : IndexState) → R a b → IsSameIndex a b) → (a b : SlotState)
+pub slot_goes : (s : StructureState) (E F : List KeyPart → SortedList → Type 0)
+    (R : List KeyPart → SortedList → SortedList → Type 0)
+    → ((parts : List KeyPart) (a b : SortedList) → E parts a → R parts a b → F parts b)
+    → ((parts : List KeyPart) (a b : SortedList) → R parts a b → b.form ≡ a.form) → (a b : SlotState)
     → IsSlotBy E s a → GoesBy R a b → IsSlotBy F s b
 slot_goes s E F R step keeps a b h goes = record {
   key = subst (IsKey s) (sym goes.same.parts) h.key;
   text = subst IsKeyText (sym goes.same.text) h.text;
-  listed = on_both (IsListed E a.parts a.text) (IsListed F b.parts b.text) R
+  listed = on_both (IsListed (E a.parts) a.text) (IsListed (F b.parts) b.text) (R a.parts)
       (λ x y l r. record {
-        exact = step x y l.exact r;
-        parts = (keeps x y r).parts ∙ l.parts ∙ sym goes.same.parts;
-        text = ap (λ (f : KeyForm). f.key_text) (keeps x y r).form ∙ l.text ∙ sym goes.same.text;
+        exact = subst (λ parts. F parts y) (sym goes.same.parts) (step a.parts x y l.exact r);
+        text = ap (λ (f : KeyForm). f.key_text) (keeps a.parts x y r) ∙ l.text ∙ sym goes.same.text;
       })
       a.index b.index h.listed goes.index;
   idle = goes.fresh ∙ h.idle;
 }
 
-pub some_weaker : (P Q : IndexState → Type 0) → ((x : IndexState) → P x → Q x) → (a : Option IndexState) → IfSome a P
+pub some_weaker : (P Q : SortedList → Type 0) → ((x : SortedList) → P x → Q x) → (a : Option SortedList) → IfSome a P
     → IfSome a Q
 some_weaker P Q step None h = tt
 some_weaker P Q step (Some x) h = step x h
 
-pub listed_some : (E P : IndexState → Type 0) (parts : _) (text : _) → ((x : IndexState) → E x → P x)
-    → (a : Option IndexState) → IfSome a (IsListed E parts text) → IfSome a P
-listed_some E P parts text step None h = tt
-listed_some E P parts text step (Some x) h = step x h.exact
+pub listed_some : (E P : SortedList → Type 0) (text : List ℕ) → ((x : SortedList) → E x → P x)
+    → (a : Option SortedList) → IfSome a (IsListed E text) → IfSome a P
+listed_some E P text step None h = tt
+listed_some E P text step (Some x) h = step x h.exact
 
 -- without the lists of closed indexes
-if_left : (P : IndexState → Type 0) (open_one : Bool) (a : Option IndexState) → IfSome a P
+if_left : (P : SortedList → Type 0) (open_one : Bool) (a : Option SortedList) → IfSome a P
     → IfSome (cond open_one a None) P
 if_left P true a h = h
 if_left P false a h = tt
 
-pub left_slot : (s : StructureState) (E : IndexState → Type 0) (numbers : List ℕ) (a : SlotState) → IsSlotBy E s a
+pub left_slot : (s : StructureState) (E : List KeyPart → SortedList → Type 0) (numbers : List ℕ) (a : SlotState) → IsSlotBy E s a
     → IsSlotBy E s (left_if_open numbers a)
 left_slot s E numbers a h = record {
   key = h.key;
   text = h.text;
-  listed = if_left (IsListed E a.parts a.text) (is_among numbers a.number) a.index h.listed;
+  listed = if_left (IsListed (E a.parts) a.text) (is_among numbers a.number) a.index h.listed;
   idle = h.idle;
 }
 
-stale_left : (open_one : Bool) (a : Option IndexState) → is_none (cond open_one a None) ≡ (is_none a || not open_one)
+stale_left : (open_one : Bool) (a : Option SortedList) → is_none (cond open_one a None) ≡ (is_none a || not open_one)
 stale_left true None = refl
 stale_left true (Some a) = refl
 stale_left false None = refl

@@ -1,5 +1,4 @@
 pub mod Tried
-pub mod Asked
 pub mod Marks
 pub mod Slots
 pub mod Tables

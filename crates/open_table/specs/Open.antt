@@ -3,14 +3,15 @@ use Rattle.std.specs.Prelude.{◌≡◌, ℕ, zero, suc, ◌+◌, ◌-◌, ◌<�
 use Rattle.std.specs.Prelude.{List, [], ◌∷◌, length, All, slice_get, slice_index_or, option_map, MatchResult, nat_le}
 use Rattle.std.specs.Prelude.{◌&&◌, if◌then◌else◌}
 use Rattle.dbf_file.specs.Rows.{Row, row_at, blank_row}
-use Rattle.dbf_file.specs.Tables.{row_widths, letter_at, decimals_at}
+use Rattle.dbf_file.specs.Tables.{TableState, row_widths, letter_at, decimals_at}
 use Rattle.dbf_file.specs.Values.{value_by}
 use Rattle.row_moves.specs.declared.landed.Spent.{Spent}
 use Rattle.row_moves.specs.Moves.{Landing}
 use Rattle.open_table.specs.declared.refused.Refused.{Refused}
 use Rattle.open_table.specs.Passes.{IsRefusal}
 use Rattle.open_table.specs.Marks.{mark_at, is_fresh}
-use Rattle.open_table.specs.Tables.{IndexedState, appended, replaced, remarked, remade}
+use Rattle.open_table.specs.Slots.{SlotState}
+use Rattle.open_table.specs.Tables.{IndexedState, IsIndexed, indexed, appended, replaced, remarked, remade}
 use Rattle.xvalue.specs.declared.value.Value.{Value}
 
 -- the table, the numbers of its open indexes, the order (0 is record order, 1 that of the first index), the record that
@@ -28,6 +29,11 @@ pub record IsOpen (table : IndexedState) (list : List ℕ) (order : ℕ) : Type 
   pub few : length list ≤ 7
   pub fresh : All (λ n. is_fresh (mark_at table.marks n) ≡ true) list
   pub order_within : order ≤ length list
+
+-- a table in use with its indexes: each that isn't stale lists the rows
+pub record IsInUse (table : TableState) (slots : List SlotState) (list : List ℕ) (order : ℕ) : Type 0 where
+  pub lists : IsIndexed table slots
+  pub is_open : IsOpen (indexed table slots) list order
 
 -- the index of an order, none for record order
 abbrev pub order_index : ℕ → List ℕ → Option ℕ

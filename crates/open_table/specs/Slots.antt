@@ -6,7 +6,8 @@ use Rattle.dbf_file.specs.Tables.{StructureState}
 use Rattle.key_lists.specs.KeyForm.{IsKeyText}
 use Rattle.shape.specs.declared.parts.KeyPart.{KeyPart}
 use Rattle.shape.specs.Keys.{IsKey}
-use Rattle.row_keys.specs.Lists.{IndexState, IsExact}
+use Rattle.key_lists.specs.SortedList.{SortedList}
+use Rattle.row_keys.specs.Lists.{IsExact}
 use Rattle.open_table.specs.Marks.{IndexMark, is_among}
 
 -- its number, how keys are made and the text that says so; its list, none where it is stale; and a list made anew that
@@ -15,24 +16,22 @@ pub record SlotState : Type 0 where
   pub number : ℕ
   pub parts : List KeyPart
   pub text : List ℕ
-  pub index : Option IndexState
-  pub fresh : Option IndexState
+  pub index : Option SortedList
+  pub fresh : Option SortedList
 
 abbrev pub mark_of : SlotState → IndexMark
 mark_of slot = record { number = slot.number; parts = slot.parts; text = slot.text; stale = is_none slot.index }
 
--- a list of the declared key, of which a fact holds
-pub record IsListed (E : IndexState → Type 0) (key : List KeyPart) (key_text : List ℕ)
-    (index : IndexState) : Type 0 where
-  pub exact : E index
-  pub parts : index.parts ≡ key
-  pub text : index.form.key_text ≡ key_text
+-- a list that names the declared key, of which a fact holds
+pub record IsListed (E : SortedList → Type 0) (key_text : List ℕ) (list : SortedList) : Type 0 where
+  pub exact : E list
+  pub text : list.form.key_text ≡ key_text
 
--- an index of a table of this structure, with nothing put by; a fact holds of its list
-pub record IsSlotBy (E : IndexState → Type 0) (structure : StructureState) (slot : SlotState) : Type 0 where
+-- an index of a table of this structure, with nothing put by; a fact holds of its key and its list
+pub record IsSlotBy (E : List KeyPart → SortedList → Type 0) (structure : StructureState) (slot : SlotState) : Type 0 where
   pub key : IsKey structure slot.parts
   pub text : IsKeyText slot.text
-  pub listed : IfSome slot.index (IsListed E slot.parts slot.text)
+  pub listed : IfSome slot.index (IsListed (E slot.parts) slot.text)
   pub idle : slot.fresh ≡ None
 
 -- its list, if it has one, lists the rows
@@ -40,7 +39,7 @@ abbrev pub IsSlot : StructureState → List Row → SlotState → Type 0
 IsSlot structure rows slot = IsSlotBy (IsExact structure rows) structure slot
 
 -- a list has become one that stands so to what it was
-abbrev pub OnBoth : (IndexState → IndexState → Type 0) → Option IndexState → Option IndexState → Type 0
+abbrev pub OnBoth : (SortedList → SortedList → Type 0) → Option SortedList → Option SortedList → Type 0
 OnBoth R None None = ⊤
 OnBoth R None (Some b) = ⊥
 OnBoth R (Some a) None = ⊥
@@ -52,10 +51,10 @@ pub record IsSameSlot (old new : SlotState) : Type 0 where
   pub parts : new.parts ≡ old.parts
   pub text : new.text ≡ old.text
 
--- the same index, whose list stands so to what it was
-pub record GoesBy (R : IndexState → IndexState → Type 0) (old new : SlotState) : Type 0 where
+-- the same index, whose list, by its key, stands so to what it was
+pub record GoesBy (R : List KeyPart → SortedList → SortedList → Type 0) (old new : SlotState) : Type 0 where
   pub same : IsSameSlot old new
-  pub index : OnBoth R old.index new.index
+  pub index : OnBoth (R old.parts) old.index new.index
   pub fresh : new.fresh ≡ old.fresh
 
 -- an open one has room for one more pair
@@ -94,7 +93,7 @@ pub record Prepares (structure : StructureState) (rows : List Row) (numbers : Li
     (old new : SlotState) : Type 0 where
   pub puts : PutsBy old new
   pub fresh : MatchBool (is_wanted numbers only_stale old)
-      (IsSomeAnd new.fresh (IsListed (IsExact structure rows) old.parts old.text)) (new.fresh ≡ None)
+      (IsSomeAnd new.fresh (IsListed (IsExact structure rows old.parts) old.text)) (new.fresh ≡ None)
 
 -- the list that was put by in the place of the other, which else stays or is given up
 abbrev pub committed : Bool → SlotState → SlotState

@@ -2,7 +2,7 @@
 use Rattle.std.specs.Prelude.{◌≡◌, ℕ, ◌-◌, ◌≤◌, ◌↔◌, Bool, true, false, Option, Some, None, List, [], ◌∷◌, ◌++◌, length}
 use Rattle.std.specs.Prelude.{All, slice_index, map, ⊤, option_map, if◌then◌else◌}
 use Rattle.dbf_file.specs.Rows.{Row, row_at, with_text, with_mark, blank_row, unmarked}
-use Rattle.dbf_file.specs.Tables.{StructureState, row_widths, decimals_at}
+use Rattle.dbf_file.specs.Tables.{StructureState, TableState, row_widths, decimals_at}
 use Rattle.dbf_file.specs.Values.{text_by}
 use Rattle.key_lists.specs.Pairs.{Pair}
 use Rattle.shape.specs.declared.parts.KeyPart.{KeyPart}
@@ -20,13 +20,13 @@ pub record IndexedState : Type 0 where
   pub rows : List Row
   pub marks : List IndexMark
 
-abbrev pub indexed : StructureState → List Row → List SlotState → IndexedState
-indexed structure rows slots = record { structure = structure; rows = rows; marks = map mark_of slots }
+abbrev pub indexed : TableState → List SlotState → IndexedState
+indexed table slots = record { structure = table.structure; rows = table.rows; marks = map mark_of slots }
 
 -- each list that isn't stale lists the rows
-pub record IsIndexed (structure : StructureState) (rows : List Row) (slots : List SlotState) : Type 0 where
-  pub few : length rows ≤ 1000000
-  pub exact : All (IsSlot structure rows) slots
+pub record IsIndexed (table : TableState) (slots : List SlotState) : Type 0 where
+  pub few : length table.rows ≤ 1000000
+  pub exact : All (IsSlot table.structure table.rows) slots
 
 -- ---- orders: record order, or that of an index by its number
 

@@ -1,12 +1,10 @@
 //! Changes of a table together with its declared indexes.
 
-ghost use Rattle.std.specs.Prelude.{◌≡◌, ◌<◌, ◌≤◌, ◌∷◌, [], ◌++◌, All, OnOk, OnErr};
-ghost use Rattle.std.specs.Prelude.{length, map, slice_index, take};
-ghost use Rattle.dbf_file.specs.Rows.{blank_row, text_at, unmarked, with_text};
-ghost use Rattle.dbf_file.specs.Tables.{row_widths, letter_at, decimals_at};
-ghost use Rattle.dbf_file.specs.Values.{kind_for, text_by};
-ghost use Rattle.open_table.specs.Marks.{left_stale, made_fresh, only_fresh};
-ghost use Rattle.open_table.specs.Slots.{IsSlot, mark_of};
+ghost use Rattle.std.specs.Prelude.{◌≡◌, ◌<◌, ◌≤◌, OnOk, OnErr, length, slice_index, take};
+ghost use Rattle.dbf_file.specs.Rows.{text_at};
+ghost use Rattle.dbf_file.specs.Tables.{row_widths, letter_at};
+ghost use Rattle.dbf_file.specs.Values.{kind_for};
+ghost use Rattle.open_table.specs.Tables.{IsIndexed, indexed, appended, replaced, remade, packed, emptied};
 ghost use Rattle.xvalue.specs.Kinds.{kind_of};
 
 use crate::slot::Slot;
@@ -25,14 +23,12 @@ pub(crate) fn append<K: KeyList>(
     slots: &mut Vec<Slot<K>>,
     list: &[u8],
 ) -> Result<(), AllocError>
+    requires lists { IsIndexed table.old slots.old.items }
     requires few { length table.old.rows < 1000000 }
-    requires exact { All (IsSlot table.old.structure table.old.rows) slots.old.items }
-    ensures structure { table.new.structure ≡ table.old.structure }
-    ensures ok { OnOk result (table.new.rows ≡ table.old.rows ++ blank_row (row_widths table.old.structure) ∷ []) }
-    ensures err { OnErr result (table.new.rows ≡ table.old.rows) }
-    ensures marks { OnOk result (map mark_of slots.new.items ≡ left_stale list.now (map mark_of slots.old.items)) }
-    ensures same_marks { OnErr result (map mark_of slots.new.items ≡ map mark_of slots.old.items) }
-    ensures exact { All (IsSlot table.new.structure table.new.rows) slots.new.items }
+    ensures ok { OnOk result (indexed table.new slots.new.items
+        ≡ appended list.now (indexed table.old slots.old.items)) }
+    ensures err { OnErr result (indexed table.new slots.new.items ≡ indexed table.old slots.old.items) }
+    ensures lists { IsIndexed table.new slots.new.items }
 {
     index_lists();
     table.reserve_row()?;
@@ -55,18 +51,14 @@ pub(crate) fn replace<K: KeyList>(
     f: usize,
     from: &Lent<'_>,
 ) -> Result<(), AllocError>
+    requires lists { IsIndexed table.old slots.old.items }
     requires row { r < length table.old.rows }
     requires field { f < length table.old.structure.fields }
     requires kind { kind_of from.now ≡ kind_for (letter_at table.old.structure f) }
-    requires few { length table.old.rows ≤ 1000000 }
-    requires exact { All (IsSlot table.old.structure table.old.rows) slots.old.items }
-    ensures structure { table.new.structure ≡ table.old.structure }
-    ensures ok { OnOk result (table.new.rows ≡ with_text table.old.rows r f
-        (text_by (slice_index (row_widths table.old.structure) f) (decimals_at table.old.structure f) from.now)) }
-    ensures err { OnErr result (table.new.rows ≡ table.old.rows) }
-    ensures marks { OnOk result (map mark_of slots.new.items ≡ left_stale list.now (map mark_of slots.old.items)) }
-    ensures same_marks { OnErr result (map mark_of slots.new.items ≡ map mark_of slots.old.items) }
-    ensures exact { All (IsSlot table.new.structure table.new.rows) slots.new.items }
+    ensures ok { OnOk result (indexed table.new slots.new.items
+        ≡ replaced list.now r f from.now (indexed table.old slots.old.items)) }
+    ensures err { OnErr result (indexed table.new slots.new.items ≡ indexed table.old slots.old.items) }
+    ensures lists { IsIndexed table.new slots.new.items }
 {
     index_lists();
     reserve_all(slots, list)?;
@@ -106,11 +98,11 @@ pub(crate) fn remake<K: KeyList>(
     list: &[u8],
     only_stale: bool,
 ) -> Result<(), AllocError>
-    requires few { length table.now.rows ≤ 1000000 }
-    requires exact { All (IsSlot table.now.structure table.now.rows) slots.old.items }
-    ensures marks { OnOk result (map mark_of slots.new.items ≡ made_fresh list.now (map mark_of slots.old.items)) }
+    requires lists { IsIndexed table.now slots.old.items }
+    ensures ok { OnOk result (indexed table.now slots.new.items
+        ≡ remade list.now (indexed table.now slots.old.items)) }
     ensures err { OnErr result (slots.new.items ≡ slots.old.items) }
-    ensures exact { All (IsSlot table.now.structure table.now.rows) slots.new.items }
+    ensures lists { IsIndexed table.now slots.new.items }
 {
     make_all(alloc, slots, table, list, only_stale, Kept::Every)?;
     commit_all(slots, false);
@@ -125,15 +117,11 @@ pub(crate) fn pack<K: KeyList>(
     slots: &mut Vec<Slot<K>>,
     list: &[u8],
 ) -> Result<(), AllocError>
-    requires few { length table.old.rows ≤ 1000000 }
-    requires exact { All (IsSlot table.old.structure table.old.rows) slots.old.items }
-    ensures structure { table.new.structure ≡ table.old.structure }
-    ensures ok { OnOk result (table.new.rows ≡ unmarked table.old.rows) }
-    ensures fewer { length table.new.rows ≤ length table.old.rows }
-    ensures err { OnErr result (table.new.rows ≡ table.old.rows) }
-    ensures marks { OnOk result (map mark_of slots.new.items ≡ only_fresh list.now (map mark_of slots.old.items)) }
-    ensures same_marks { OnErr result (slots.new.items ≡ slots.old.items) }
-    ensures exact { All (IsSlot table.new.structure table.new.rows) slots.new.items }
+    requires lists { IsIndexed table.old slots.old.items }
+    ensures ok { OnOk result (indexed table.new slots.new.items
+        ≡ packed list.now (indexed table.old slots.old.items)) }
+    ensures err { OnErr result (indexed table.new slots.new.items ≡ indexed table.old slots.old.items) }
+    ensures lists { IsIndexed table.new slots.new.items }
 {
     make_all(alloc, slots, table, list, false, Kept::Unmarked)?;
     table.pack();
@@ -149,14 +137,11 @@ pub(crate) fn clear<K: KeyList>(
     slots: &mut Vec<Slot<K>>,
     list: &[u8],
 ) -> Result<(), AllocError>
-    requires few { length table.old.rows ≤ 1000000 }
-    requires exact { All (IsSlot table.old.structure table.old.rows) slots.old.items }
-    ensures structure { table.new.structure ≡ table.old.structure }
-    ensures ok { OnOk result (table.new.rows ≡ []) }
-    ensures err { OnErr result (table.new.rows ≡ table.old.rows) }
-    ensures marks { OnOk result (map mark_of slots.new.items ≡ only_fresh list.now (map mark_of slots.old.items)) }
-    ensures same_marks { OnErr result (slots.new.items ≡ slots.old.items) }
-    ensures exact { All (IsSlot table.new.structure table.new.rows) slots.new.items }
+    requires lists { IsIndexed table.old slots.old.items }
+    ensures ok { OnOk result (indexed table.new slots.new.items
+        ≡ emptied list.now (indexed table.old slots.old.items)) }
+    ensures err { OnErr result (indexed table.new slots.new.items ≡ indexed table.old slots.old.items) }
+    ensures lists { IsIndexed table.new slots.new.items }
 {
     make_all(alloc, slots, table, list, false, Kept::Nothing)?;
     table.clear();

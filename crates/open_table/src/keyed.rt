@@ -2,7 +2,7 @@
 
 ghost use Rattle.std.specs.Prelude.{◌↔◌, ◌≡◌, ◌≤◌, List, All, length, map, is_some, IfSome, IsTrue};
 ghost use Rattle.dbf_file.specs.Rows.{Row as TheRow};
-ghost use Rattle.dbf_file.specs.Tables.{StructureState};
+ghost use Rattle.dbf_file.specs.Tables.{StructureState, TableState};
 ghost use Rattle.shape.specs.Keys.{IsKey};
 ghost use Rattle.row_keys.specs.Lists.{index_list};
 ghost use Rattle.open_table.specs.Marks.{mark_at, is_fresh, parts_in, form_in, count_stale};
@@ -54,8 +54,7 @@ pub(crate) fn has_fresh<K: KeyList>(slots: &Vec<Slot<K>>, number: u8) -> bool
 
 /// Whether there is a list of the rows in an order: it is record order, or its index isn't stale.
 pub(crate) fn has_order<K: KeyList>(slots: &Vec<Slot<K>>, order: Option<u8>) -> bool
-    ensures { (s : StructureState) (rows : List TheRow)
-        → IsTrue result ↔ IsOrder order (indexed s rows slots.now.items) }
+    ensures { (table : TableState) → IsTrue result ↔ IsOrder order (indexed table slots.now.items) }
 {
     match order {
         Some(number) => has_fresh(slots, number),

@@ -10,10 +10,8 @@ mod refused;
 mod row;
 mod slot;
 mod slots;
-mod table;
 mod trying;
 
 pub use opened::{AppendError, OpenTable};
 pub use refused::Refused;
 pub use row::Row;
-pub use table::IndexedTable;

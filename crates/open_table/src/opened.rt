@@ -14,7 +14,7 @@ ghost use Rattle.shape.specs.Keys.{IsKey, key_length};
 ghost use Rattle.row_moves.specs.Moves.{Landing, IsMove, end_of, landing_of, sought};
 ghost use Rattle.open_table.specs.Tables.{HasDeclared, IsOrder, order_pairs, pairs_in_order, pair_at, packed, emptied};
 ghost use Rattle.open_table.specs.Tables.{remade, open_list};
-ghost use Rattle.open_table.specs.Marks.{mark_at, count_stale, parts_in};
+ghost use Rattle.open_table.specs.Marks.{mark_at, is_fresh, count_stale, form_in, parts_in};
 ghost use Rattle.open_table.specs.Passes.{at_higher_cost, EndsWithMove};
 ghost use Rattle.dbf_file.specs.Rows.{unmarked};
 ghost use Rattle.open_table.specs.Tried.{MayAskRows, ShowsRows};
@@ -22,10 +22,14 @@ ghost use Rattle.open_table.specs.Open.{IsMoved, IsEnded, opened, closed, first_
 ghost use Rattle.open_table.specs.Open.{gone_to, with_blank, place_in, replaced_here, remarked_here, reordered};
 ghost use Rattle.open_table.specs.Open.{deleted_of, field_of, landed as landed_at, within, within as within_of};
 
-use crate::{IndexedTable, Refused, Row};
+use crate::closing::make_and_top;
+use crate::keyed::{has_slot, keys_at, stale_in};
+use crate::slot::{Slot, slot_with};
+use crate::{Refused, Row, changes, closing, trying};
 use arrayvec::ArrayVec;
 use dbf_file::{Table, lent};
 use key_lists::KeyList;
+use row_keys::laws::index_lists;
 use row_moves::{Landed, RowMove, Spent};
 use shape::KeyParts;
 use std::alloc::{AllocError, Global};
@@ -35,10 +39,12 @@ use xvalue::Lent;
 /// The text of a longest field of blanks.
 const BLANKS: &[u8] = &[b' '; 255];
 
-/// A table in use: its open indexes, an order, a pointer, and the answers of BOF() and FOUND().
+/// A table with its declared indexes, in use: the open ones, an order, a pointer, and the answers of BOF() and FOUND().
+/// Each index that isn't stale lists the rows.
 #[derive(Drop)]
 pub struct OpenTable<K: KeyList> {
-    table: IndexedTable<K>,
+    table: Table,
+    slots: Vec<Slot<K>>,
     list: ArrayVec<u8, 7>,
     order: u8,
     pointer: Option<u32>,
@@ -47,12 +53,13 @@ pub struct OpenTable<K: KeyList> {
 }
 
 impl<K: KeyList> Model for OpenTable<K> {
-    ghost use Rattle.open_table.specs.Open.{OpenState, IsOpen};
+    ghost use Rattle.open_table.specs.Tables.{indexed};
+    ghost use Rattle.open_table.specs.Open.{OpenState, IsInUse};
 
     ghost Value = { OpenState };
 
     ghost view = { λ t. record {
-      table = t.table;
+      table = indexed t.table t.slots.items;
       list = t.list.items;
       order = t.order;
       pointer = t.pointer;
@@ -60,7 +67,7 @@ impl<K: KeyList> Model for OpenTable<K> {
       found = t.found;
     } };
 
-    ghost invariant = { λ t. IsOpen t.table t.list.items t.order };
+    ghost invariant = { λ t. IsInUse t.table t.slots.items t.list.items t.order };
 }
 
 /// Why no row was added.
@@ -88,12 +95,21 @@ fn record_within(count: u32, number: Option<u32>) -> Option<u32>
 }
 
 impl<K: KeyList> OpenTable<K> {
-    /// A table in use without indexes, at the end of file.
-    pub fn new(table: IndexedTable<K>) -> Self
-        ensures { result ≡ record { table = table; list = []; order = 0; pointer = None; bof = false; found = false } }
+    /// A table of at most 1,000,000 rows in use, with no index, at the end of file.
+    pub fn new(alloc: Global, table: Table) -> Self
+        requires { length table.rows ≤ 1000000 }
+        ensures { result ≡ record {
+          table = record { structure = table.structure; rows = table.rows; marks = [] };
+          list = [];
+          order = 0;
+          pointer = None;
+          bof = false;
+          found = false;
+        } }
     {
         OpenTable {
             table,
+            slots: Vec::new(alloc),
             list: ArrayVec::new(),
             order: 0,
             pointer: None,
@@ -122,14 +138,36 @@ impl<K: KeyList> OpenTable<K> {
             (record { number = number; parts = key; text = text.items; stale = true }) self.old.table self.new.table) }
         ensures err { OnErr result (self.new ≡ self.old) }
     {
-        self.table.declare_with(number, key, text, list)
+        let slot = slot_with(&self.table, number, key, text, list);
+        self.slots.push(slot)?;
+        Ok(())
     }
 
-    /// The table with its indexes.
-    pub fn table(&self) -> &IndexedTable<K>
-        ensures { result.now ≡ self.now.table }
+    /// The table.
+    pub fn table(&self) -> &Table
+        ensures structure { result.now.structure ≡ self.now.table.structure }
+        ensures rows { result.now.rows ≡ self.now.table.rows }
     {
         &self.table
+    }
+
+    /// Whether the table has an index of this number.
+    pub fn has_index(&self, number: u8) -> bool
+        ensures { result ≡ is_some (mark_at self.now.table.marks number) }
+    {
+        has_slot(&self.slots, number)
+    }
+
+    /// The list of the index of this number; none where it is stale, or there is no such index. It lists the rows under
+    /// the declared key.
+    pub fn keys(&self, number: u8) -> Option<&K>
+        ensures fresh { is_some result ≡ is_fresh (mark_at self.now.table.marks number) }
+        ensures exact { IfSome result (λ keys. K.pairs keys.now
+            ≡ index_list (parts_in (mark_at self.now.table.marks number)) self.now.table.rows) }
+        ensures form { IfSome result (λ keys. K.form keys.now
+            ≡ form_in self.now.table.structure (mark_at self.now.table.marks number)) }
+    {
+        keys_at(&self.table, &self.slots, number)
     }
 
     /// The list of an open index, by its place among the open ones, counted from 0; none where fewer are open. It is
@@ -140,7 +178,7 @@ impl<K: KeyList> OpenTable<K> {
             ≡ index_list (parts_in (mark_at self.now.table.marks n)) self.now.table.rows)) }
     {
         match self.list.get(k) {
-            Some(number) => self.table.keys(*number),
+            Some(number) => self.keys(*number),
             None => None,
         }
     }
@@ -216,9 +254,15 @@ impl<K: KeyList> OpenTable<K> {
             (order_pairs (order_index self.old.order self.old.list) self.old.table)) budget result }
     {
         let order = self.order_index();
-        let moved = self
-            .table
-            .make_move(order, self.pointer, asked, &see, budget);
+        let moved = trying::make_move(
+            &self.table,
+            &mut self.slots,
+            order,
+            self.pointer,
+            asked,
+            &see,
+            budget,
+        );
         self.settle(moved)
     }
 
@@ -239,7 +283,15 @@ impl<K: KeyList> OpenTable<K> {
             (order_pairs (order_index self.old.order self.old.list) self.old.table)) budget result }
     {
         let number = self.key_index();
-        let moved = self.table.seek(number, text, exact, &see, budget);
+        let moved = trying::seek(
+            &self.table,
+            &mut self.slots,
+            number,
+            text,
+            exact,
+            &see,
+            budget,
+        );
         self.settle(moved)
     }
 
@@ -260,11 +312,11 @@ impl<K: KeyList> OpenTable<K> {
         ensures err { OnErr result (self.new ≡ self.old) }
         ensures full { (result ≡ Err AppendError.Full) ↔ (limit ≤ length self.old.table.rows) }
     {
-        let count = self.table.count();
+        let count = self.reccount();
         if count >= limit {
             return Err(AppendError::Full);
         }
-        match self.table.append(self.list.as_slice()) {
+        match changes::append(&mut self.table, &mut self.slots, self.list.as_slice()) {
             Ok(()) => {
                 self.pointer = Some(count + 1);
                 self.bof = false;
@@ -282,7 +334,7 @@ impl<K: KeyList> OpenTable<K> {
     {
         match self.pointer {
             Some(n) => {
-                if n >= 1 && n <= self.table.count() {
+                if n >= 1 && n <= self.reccount() {
                     return Some(n as usize - 1);
                 }
                 None
@@ -302,7 +354,8 @@ impl<K: KeyList> OpenTable<K> {
         let Some(r) = self.place() else {
             return Ok(());
         };
-        self.table.replace(self.list.as_slice(), r, f, from)
+        let list = self.list.as_slice();
+        changes::replace(&mut self.table, &mut self.slots, list, r, f, from)
     }
 
     /// DELETE and RECALL: marks the record that is pointed to, or takes its mark away; at the end of file nothing
@@ -310,6 +363,7 @@ impl<K: KeyList> OpenTable<K> {
     pub fn set_mark(&mut self, marked: bool)
         ensures { self.new ≡ remarked_here marked self.old }
     {
+        index_lists();
         if let Some(r) = self.place() {
             self.table.set_mark(r, marked);
         }
@@ -319,7 +373,7 @@ impl<K: KeyList> OpenTable<K> {
     pub fn go(&mut self, number: Option<u32>)
         ensures { self.new ≡ gone_to self.old (within (length self.old.table.rows) number) }
     {
-        let count = self.table.count();
+        let count = self.reccount();
         self.pointer = record_within(count, number);
         self.bof = false;
         self.found = false;
@@ -367,7 +421,7 @@ impl<K: KeyList> OpenTable<K> {
         ensures { result ≡ deleted_of self.now }
     {
         match self.place() {
-            Some(r) => self.table.table().mark(r),
+            Some(r) => self.table.mark(r),
             None => false,
         }
     }
@@ -379,16 +433,17 @@ impl<K: KeyList> OpenTable<K> {
         ensures { result ≡ field_of f self.entry.now }
     {
         match self.place() {
-            Some(r) => self.table.table().lent_at(r, f),
-            None => blank(self.table.table(), f),
+            Some(r) => self.table.lent_at(r, f),
+            None => blank(&self.table, f),
         }
     }
 
-    /// RECCOUNT().
+    /// RECCOUNT(), at most 1,000,000.
     pub fn reccount(&self) -> u32
-        ensures { result ≡ length self.now.table.rows }
+        ensures count { result ≡ length self.now.table.rows }
+        ensures few { length self.now.table.rows ≤ 1000000 }
     {
-        self.table.count()
+        self.table.rows() as u32
     }
 
     /// RECNO(): at the end of file the count plus 1.
@@ -397,7 +452,7 @@ impl<K: KeyList> OpenTable<K> {
     {
         match self.pointer {
             Some(number) => number,
-            None => self.table.count() + 1,
+            None => self.reccount() + 1,
         }
     }
 
@@ -431,9 +486,15 @@ impl<K: KeyList> OpenTable<K> {
             (unmarked self.old.table.rows)))) budget result }
     {
         let order = self.order_index();
-        let ended = self
-            .table
-            .pack(alloc, self.list.as_slice(), order, &see, budget);
+        let ended = closing::pack(
+            alloc,
+            &mut self.table,
+            &mut self.slots,
+            self.list.as_slice(),
+            order,
+            &see,
+            budget,
+        );
         self.finish(ended)
     }
 
@@ -443,8 +504,23 @@ impl<K: KeyList> OpenTable<K> {
             → IsEnded (landed_at (in_table self.old (emptied self.old.list self.old.table))) self.old self.new
             (end_of shown true []) budget result }
     {
-        let ended = self.table.zap(alloc, self.list.as_slice(), budget);
-        self.finish(ended)
+        if budget == 0 {
+            return Err(Refused::Spent);
+        }
+        match changes::clear(
+            alloc,
+            &mut self.table,
+            &mut self.slots,
+            self.list.as_slice(),
+        ) {
+            Ok(()) => Ok(self.land(Landed {
+                row: None,
+                cost: 1,
+                bof: true,
+                found: false,
+            })),
+            Err(_) => Err(Refused::NoMemory),
+        }
     }
 
     /// REINDEX: makes the open indexes anew, and ends with TOP. Where it is refused nothing changes.
@@ -462,9 +538,18 @@ impl<K: KeyList> OpenTable<K> {
             (end_of shown true (order_pairs (order_index self.old.order self.old.list) self.old.table))) budget result }
     {
         let order = self.order_index();
-        let ended = self
-            .table
-            .reindex(alloc, self.list.as_slice(), order, &see, budget);
+        let base = u64::from(self.reccount()) * self.list.len() as u64;
+        let ended = make_and_top(
+            alloc,
+            &self.table,
+            &mut self.slots,
+            self.list.as_slice(),
+            false,
+            order,
+            &see,
+            base,
+            budget,
+        );
         self.finish(ended)
     }
 
@@ -497,14 +582,8 @@ impl<K: KeyList> OpenTable<K> {
             (at_higher_cost (length self.old.table.rows * count_stale list.now self.old.table.marks)
             (end_of shown true (order_pairs (slice_get list.now 0) self.old.table))) budget result }
     {
-        match self.table.open(alloc, list, &see, budget) {
-            Ok(landed) => {
-                self.list = held(list);
-                self.order = order_of(list);
-                Ok(self.land(landed))
-            }
-            Err(refused) => Err(refused),
-        }
+        let base = u64::from(self.reccount()) * stale_in(&self.slots, list) as u64;
+        self.open_made(alloc, list, true, see, base, budget)
     }
 
     /// INDEX ON: makes one index anew, whether it is stale or not, which alone is open then and gives the order, and
@@ -524,10 +603,48 @@ impl<K: KeyList> OpenTable<K> {
             (at_higher_cost (length self.old.table.rows)
             (end_of shown true (order_pairs (Some number) self.old.table))) budget result }
     {
-        match self.table.index_on(alloc, number, &see, budget) {
+        let base = u64::from(self.reccount());
+        self.open_made(alloc, &[number], false, see, base, budget)
+    }
+
+    /// Makes indexes of the table anew, or those of them that are stale, opens them in place of the open ones, and ends
+    /// with TOP in the order of the first, at a cost that is higher by a base. Where it is refused nothing changes.
+    fn open_made<F: Fn(&Row<'_>) -> bool>(
+        &mut self,
+        alloc: Global,
+        list: &[u8],
+        only_stale: bool,
+        see: F,
+        base: u64,
+        budget: u64,
+    ) -> Result<u64, Refused>
+        requires callable { MayAskRows F.pre see self.old.table.structure }
+        requires few { length list.now ≤ 7 }
+        requires declared { All (λ n. is_some (mark_at self.old.table.marks n) ≡ true) list.now }
+        requires base { base ≤ 1000000000 }
+        // Where the list of the order isn't there, the base pays for passes over the rows.
+        requires paid { ¬ IsOrder (slice_get list.now 0) self.old.table → length self.old.table.rows ≤ base }
+        ensures { (shown : ℕ → Bool)
+            → ShowsRows (FnReturnsAt F.Fn) see self.old.table.structure self.old.table.rows shown
+            → IsEnded (landed_at (opened list.now self.old)) self.old self.new
+            (at_higher_cost base (end_of shown true (order_pairs (slice_get list.now 0) self.old.table)))
+            budget result }
+    {
+        let order = first_index(list);
+        match make_and_top(
+            alloc,
+            &self.table,
+            &mut self.slots,
+            list,
+            only_stale,
+            order,
+            &see,
+            base,
+            budget,
+        ) {
             Ok(landed) => {
-                self.list = held(&[number]);
-                self.order = 1;
+                self.list = held(list);
+                self.order = order_of(list);
                 Ok(self.land(landed))
             }
             Err(refused) => Err(refused),
@@ -547,6 +664,13 @@ fn blank(table: &Table, f: usize) -> Lent<'_>
         field.decimals,
         &BLANKS[..usize::from(field.width)],
     )
+}
+
+/// The first of some indexes.
+fn first_index(list: &[u8]) -> Option<u8>
+    ensures { result ≡ slice_get list.now 0 }
+{
+    list.first().copied()
 }
 
 /// The order of indexes that are opened: that of the first, or record order where there is none.

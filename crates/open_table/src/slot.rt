@@ -1,17 +1,16 @@
 //! A declared index of a table.
 
-ghost use Rattle.std.specs.Prelude.{◌≡◌, ℕ, ◌+◌, ◌<◌, ◌≤◌, ◌^◌, ◌-◌, ◌↔◌, Bool, false, None, is_none};
+ghost use Rattle.std.specs.Prelude.{◌≡◌, ℕ, ◌+◌, ◌<◌, ◌≤◌, ◌^◌, ◌-◌, ◌↔◌, Bool, false, None, is_none, option_map};
 ghost use Rattle.std.specs.Prelude.{is_some, IfSome, OnOk, IsSomeAnd, IsTrue, Contains, length};
 ghost use Rattle.std.specs.Prelude.{slice_index};
 ghost use Rattle.key_lists.specs.KeyForm.{KeyForm, IsKeyText};
 ghost use Rattle.dbf_file.specs.Tables.{row_widths};
 ghost use Rattle.dbf_file.specs.Rows.{row_at, with_text};
 ghost use Rattle.shape.specs.Keys.{IsKey, key_of, key_length};
-ghost use Rattle.row_keys.specs.Lists.{index_list, row_pair, kept_rows, IsExact, IsIndexOf, IsAsBefore, HasAdded};
-ghost use Rattle.row_keys.specs.Lists.{HasFollowed};
+ghost use Rattle.row_keys.specs.Lists.{index_list, list_by, row_pair, kept_rows, IsExact, IsIndexOf, IsAsBefore};
+ghost use Rattle.row_keys.specs.Lists.{HasAdded, HasFollowed};
 ghost use Rattle.row_moves.specs.Orders.{MayTry, Sees};
-ghost use Rattle.row_moves.specs.Moves.{IsMove};
-ghost use Rattle.open_table.specs.Asked.{asked_landing};
+ghost use Rattle.row_moves.specs.Moves.{IsMove, landing_of, sought};
 ghost use Rattle.open_table.specs.Slots.{IsSlot, GoesBy, HasRoomForPair, PutsBy, Prepares, committed, discarded};
 ghost use Rattle.open_table.specs.Slots.{left_if_open};
 ghost use Rattle.open_table.specs.Slots.{is_wanted as is_wanted_of};
@@ -20,23 +19,25 @@ use arrayvec::ArrayVec;
 use dbf_file::Table;
 use key_lists::{Entry, KeyList};
 use row_keys::exact::lists_rows;
-use row_keys::{Index, Kept, build_of};
-use row_moves::{Landed, RowMove, Spent};
+use row_keys::{Kept, add_row, build_of, follow};
+use row_moves::{Landed, RowMove, Spent, make_move, seek};
 use shape::{KeyParts, is_among};
 use std::alloc::{AllocError, Global};
 use std::marker::Model;
 
-/// A declared index of a table, with its list unless that is stale.
+/// A declared index of a table: how its keys are made, and its list unless that is stale.
 #[derive(Drop)]
 pub(crate) struct Slot<K: KeyList> {
     number: u8,
     key: KeyParts,
     text: ArrayVec<u8, 100>,
-    index: Option<Index<K>>,
-    fresh: Option<Index<K>>,
+    keys: Option<K>,
+    fresh: Option<K>,
 }
 
 impl<K: KeyList> Model for Slot<K> {
+    ghost use Rattle.std.specs.Prelude.{option_map};
+    ghost use Rattle.row_keys.specs.Lists.{list_by};
     ghost use Rattle.open_table.specs.Slots.{SlotState};
 
     ghost Value = { SlotState };
@@ -45,8 +46,8 @@ impl<K: KeyList> Model for Slot<K> {
       number = s.number;
       parts = s.key;
       text = s.text.items;
-      index = s.index;
-      fresh = s.fresh;
+      index = option_map (list_by K.pairs K.spare K.form) s.keys;
+      fresh = option_map (list_by K.pairs K.spare K.form) s.fresh;
     } };
 }
 
@@ -89,21 +90,9 @@ pub(crate) fn slot_with<K: KeyList>(
     ensures exact { (is_none result.index ≡ false) ↔ IsSomeAnd list (λ k. K.pairs k ≡ index_list key table.now.rows) }
 {
     match exact_list(table, &key, list) {
-        Some(keys) => {
-            let parts = key.copied();
-            Slot::new(number, key, text, Some(Index::new(parts, keys)))
-        }
+        Some(keys) => Slot::new(number, key, text, Some(keys)),
         None => Slot::new(number, key, text, None),
     }
-}
-
-/// What is asked of an order.
-#[derive(Clone, Copy)]
-pub(crate) enum Asked<'a> {
-    /// A move, from a record or the end of file.
-    Move { to: RowMove, pointer: Option<u32> },
-    /// SEEK. It is asked of the order of an index alone.
-    Key { text: &'a [u8], exact: bool },
 }
 
 /// The key of a record, counted from 1, with its number. Where there is no such record the key is empty.
@@ -122,19 +111,20 @@ fn entry_at(key: &KeyParts, table: &Table, number: u32) -> Entry
 
 impl<K: KeyList> Slot<K> {
     /// A declared index with its list, or none where that is stale.
-    pub(crate) fn new(
-        number: u8,
-        key: KeyParts,
-        text: ArrayVec<u8, 100>,
-        index: Option<Index<K>>,
-    ) -> Self
-        ensures { result ≡ record { number = number; parts = key; text = text.items; index = index; fresh = None } }
+    fn new(number: u8, key: KeyParts, text: ArrayVec<u8, 100>, keys: Option<K>) -> Self
+        ensures { result ≡ record {
+          number = number;
+          parts = key;
+          text = text.items;
+          index = option_map (list_by K.pairs K.spare K.form) keys;
+          fresh = None;
+        } }
     {
         Slot {
             number,
             key,
             text,
-            index,
+            keys,
             fresh: None,
         }
     }
@@ -152,8 +142,8 @@ impl<K: KeyList> Slot<K> {
         ensures same { IfSome result (λ keys. IfSome self.now.index (λ x. K.pairs keys.now ≡ x.pairs)) }
         ensures form { IfSome result (λ keys. IfSome self.now.index (λ x. K.form keys.now ≡ x.form)) }
     {
-        match &self.index {
-            Some(index) => Some(index.list()),
+        match &self.keys {
+            Some(keys) => Some(keys),
             None => None,
         }
     }
@@ -169,20 +159,23 @@ impl<K: KeyList> Slot<K> {
     pub(crate) fn is_stale(&self) -> bool
         ensures { result ≡ is_none self.now.index }
     {
-        self.index.is_none()
+        match &self.keys {
+            Some(_) => false,
+            None => true,
+        }
     }
 
     /// Makes room for one more pair, if the index is open.
     pub(crate) fn reserve(&mut self, list: &[u8]) -> Result<(), AllocError>
         requires { IfSome self.old.index (λ x. length x.pairs + 1 < 2 ^ 32) }
-        ensures same { GoesBy IsAsBefore self.old self.new }
+        ensures same { GoesBy (λ parts. IsAsBefore) self.old self.new }
         ensures ok { OnOk result (HasRoomForPair list.now self.new) }
     {
         if !is_among(list, self.number) {
             return Ok(());
         }
-        match &mut self.index {
-            Some(index) => index.reserve_one(),
+        match &mut self.keys {
+            Some(keys) => keys.reserve_one(),
             None => Ok(()),
         }
     }
@@ -192,7 +185,7 @@ impl<K: KeyList> Slot<K> {
         ensures { self.new ≡ left_if_open list.now self.old }
     {
         if !is_among(list, self.number) {
-            self.index = None;
+            self.keys = None;
         }
     }
 
@@ -200,13 +193,13 @@ impl<K: KeyList> Slot<K> {
     pub(crate) fn add_row(&mut self, table: &Table, r: usize)
         requires row { r < length table.now.rows }
         requires few { r < 1000000 }
-        requires index { IfSome self.old.index (IsIndexOf table.now.structure) }
+        requires index { IfSome self.old.index (IsIndexOf table.now.structure self.old.parts) }
         requires reserved { IfSome self.old.index (λ x. 0 < x.spare) }
-        requires absent { IfSome self.old.index (λ x. ¬ Contains x.pairs (row_pair x.parts table.now.rows r)) }
+        requires absent { IfSome self.old.index (λ x. ¬ Contains x.pairs (row_pair self.old.parts table.now.rows r)) }
         ensures { GoesBy (HasAdded table.now.rows r) self.old self.new }
     {
-        match &mut self.index {
-            Some(index) => index.add_row(table, r),
+        match &mut self.keys {
+            Some(keys) => add_row(keys, &self.key, table, r),
             None => {}
         }
     }
@@ -218,21 +211,22 @@ impl<K: KeyList> Slot<K> {
         requires field { f < length table.now.structure.fields }
         requires width { length before.now ≡ slice_index (row_widths table.now.structure) f }
         requires exact { IfSome self.old.index
-            (IsExact table.now.structure (with_text table.now.rows r f before.now)) }
+            (IsExact table.now.structure (with_text table.now.rows r f before.now) self.old.parts) }
         requires reserved { IfSome self.old.index (λ x. 0 < x.spare) }
         ensures { GoesBy (HasFollowed table.now.structure table.now.rows) self.old self.new }
     {
-        match &mut self.index {
-            Some(index) => index.follow(table, r, f, before),
+        match &mut self.keys {
+            Some(keys) => follow(keys, &self.key, table, r, f, before),
             None => {}
         }
     }
 
-    /// Makes the move or SEEK that is asked for in the order of the list, which isn't stale.
-    pub(crate) fn carry_out<F: Fn(u32) -> bool>(
+    /// A move in the order of the list, which isn't stale, from a record or the end of file.
+    pub(crate) fn make_move<F: Fn(u32) -> bool>(
         &mut self,
         table: &Table,
-        asked: Asked<'_>,
+        pointer: Option<u32>,
+        asked: RowMove,
         see: &F,
         budget: u64,
     ) -> Result<Landed, Spent>
@@ -240,27 +234,45 @@ impl<K: KeyList> Slot<K> {
         requires fresh { is_none self.old.index ≡ false }
         requires callable { MayTry F.pre see.now (index_list self.old.parts table.now.rows) }
         ensures lands { (shown : ℕ → Bool) → Sees F.post see.now (index_list self.old.parts table.now.rows) shown
-            → IsMove (asked_landing shown asked.entry (λ n. key_of self.old.parts (row_at table.now.rows (n - 1)).texts)
+            → IsMove (landing_of shown asked
+            (option_map (λ n. (key_of self.old.parts (row_at table.now.rows (n - 1)).texts, n)) pointer)
             (index_list self.old.parts table.now.rows)) budget result }
         ensures same { self.new ≡ self.old }
     {
-        let Some(index) = &mut self.index else {
+        let Some(keys) = &mut self.keys else {
             unreachable!()
         };
-        match asked {
-            Asked::Move { to, pointer } => {
-                let from = pointer.map(|number| entry_at(&self.key, table, number));
-                index.make_move(from, to, see, budget)
-            }
-            Asked::Key { text, exact } => index.seek(text, exact, see, budget),
-        }
+        let from = pointer.map(|number| entry_at(&self.key, table, number));
+        make_move(keys, from, asked, see, budget)
+    }
+
+    /// SEEK in the list, which isn't stale.
+    pub(crate) fn seek<F: Fn(u32) -> bool>(
+        &mut self,
+        table: &Table,
+        text: &[u8],
+        exact: bool,
+        see: &F,
+        budget: u64,
+    ) -> Result<Landed, Spent>
+        requires exact { IsSlot table.now.structure table.now.rows self.old }
+        requires fresh { is_none self.old.index ≡ false }
+        requires callable { MayTry F.pre see.now (index_list self.old.parts table.now.rows) }
+        ensures lands { (shown : ℕ → Bool) → Sees F.post see.now (index_list self.old.parts table.now.rows) shown
+            → IsMove (sought shown exact text.now (index_list self.old.parts table.now.rows)) budget result }
+        ensures same { self.new ≡ self.old }
+    {
+        let Some(keys) = &mut self.keys else {
+            unreachable!()
+        };
+        seek(keys, text, exact, see, budget)
     }
 
     /// Whether the index is one of these, and, if only those are wanted, is stale.
     fn is_wanted(&self, list: &[u8], only_stale: bool) -> bool
         ensures { result ≡ is_wanted_of list.now only_stale self.now }
     {
-        is_among(list, self.number) && (self.index.is_none() || !only_stale)
+        is_among(list, self.number) && (self.is_stale() || !only_stale)
     }
 
     /// Makes a list anew of the rows that are kept, and puts it by, if it is wanted.
@@ -283,8 +295,8 @@ impl<K: KeyList> Slot<K> {
         if !self.is_wanted(list, only_stale) {
             return Ok(());
         }
-        let index = build_of(alloc, table, self.key.copied(), self.text.as_slice(), kept)?;
-        self.fresh = Some(index);
+        let keys = build_of(alloc, table, &self.key, self.text.as_slice(), kept)?;
+        self.fresh = Some(keys);
         Ok(())
     }
 
@@ -293,10 +305,10 @@ impl<K: KeyList> Slot<K> {
         ensures { self.new ≡ committed gives_up self.old }
     {
         match self.fresh.take() {
-            Some(index) => self.index = Some(index),
+            Some(keys) => self.keys = Some(keys),
             None => {
                 if gives_up {
-                    self.index = None;
+                    self.keys = None;
                 }
             }
         }

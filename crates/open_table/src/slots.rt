@@ -20,7 +20,7 @@ pub(crate) fn reserve_all<K: KeyList>(
     list: &[u8],
 ) -> Result<(), AllocError>
     requires { All (λ slot. IfSome slot.index (λ x. length x.pairs + 1 < 2 ^ 32)) slots.old.items }
-    ensures same { Along (GoesBy IsAsBefore) slots.old.items slots.new.items }
+    ensures same { Along (GoesBy (λ parts. IsAsBefore)) slots.old.items slots.new.items }
     ensures ok { OnOk result (All (HasRoomForPair list.now) slots.new.items) }
 {
     for slot in slots.iter_mut() {
@@ -49,10 +49,10 @@ pub(crate) fn are_stale<K: KeyList>(slots: &Vec<Slot<K>>) -> bool
 pub(crate) fn add_all<K: KeyList>(slots: &mut Vec<Slot<K>>, table: &Table, r: usize)
     requires row { r < length table.now.rows }
     requires few { r < 1000000 }
-    requires index { All (λ slot. IfSome slot.index (IsIndexOf table.now.structure)) slots.old.items }
+    requires index { All (λ slot. IfSome slot.index (IsIndexOf table.now.structure slot.parts)) slots.old.items }
     requires reserved { All (λ slot. IfSome slot.index (λ x. 0 < x.spare)) slots.old.items }
     requires absent { All (λ slot. IfSome slot.index
-        (λ x. ¬ Contains x.pairs (row_pair x.parts table.now.rows r))) slots.old.items }
+        (λ x. ¬ Contains x.pairs (row_pair slot.parts table.now.rows r))) slots.old.items }
     ensures { Along (GoesBy (HasAdded table.now.rows r)) slots.old.items slots.new.items }
 {
     for slot in slots.iter_mut() {
@@ -73,7 +73,7 @@ pub(crate) fn follow_all<K: KeyList>(
     requires field { f < length table.now.structure.fields }
     requires width { length before.now ≡ slice_index (row_widths table.now.structure) f }
     requires exact { All (λ slot. IfSome slot.index
-        (IsExact table.now.structure (with_text table.now.rows r f before.now))) slots.old.items }
+        (IsExact table.now.structure (with_text table.now.rows r f before.now) slot.parts)) slots.old.items }
     requires reserved { All (λ slot. IfSome slot.index (λ x. 0 < x.spare)) slots.old.items }
     ensures { Along (GoesBy (HasFollowed table.now.structure table.now.rows)) slots.old.items slots.new.items }
 {

@@ -2,19 +2,18 @@
 
 ghost use Rattle.std.specs.Prelude.{◌≡◌, ℕ, ◌<◌, ◌≤◌, Bool, true, Some, length, map, slice_index_or};
 ghost use Rattle.std.specs.Fn.{FnReturnsAt};
-ghost use Rattle.row_moves.specs.Moves.{IsMove};
-ghost use Rattle.open_table.specs.Asked.{asked_landing, IsAskedIn};
+ghost use Rattle.row_moves.specs.Moves.{IsMove, landing_of, sought};
 ghost use Rattle.open_table.specs.Marks.{mark_at, is_fresh};
 ghost use Rattle.open_table.specs.Slots.{SlotState, mark_of};
-ghost use Rattle.open_table.specs.Tables.{IsOrder, IsIndexed, order_pairs, order_key, indexed};
+ghost use Rattle.open_table.specs.Tables.{IsOrder, IsIndexed, order_pairs, pair_at, indexed};
 ghost use Rattle.open_table.specs.Tried.{MayAskRows, ShowsRows};
 
 use crate::row::Row;
-use crate::slot::{Asked, Slot};
+use crate::slot::Slot;
 use dbf_file::Table;
 use key_lists::KeyList;
 use row_keys::laws::index_lists;
-use row_moves::{Landed, Records, Spent, make_move};
+use row_moves::{Landed, Records, RowMove, Spent};
 
 /// Whether a test shows a record, counted from 1.
 fn shows<F: Fn(&Row<'_>) -> bool>(see: &F, table: &Table, number: u32) -> bool
@@ -43,23 +42,22 @@ fn place_of<K: KeyList>(slots: &Vec<Slot<K>>, number: u8) -> usize
     unreachable!()
 }
 
-/// Makes the move or SEEK that is asked for in an order.
-pub(crate) fn carry_out<K: KeyList, F: Fn(&Row<'_>) -> bool>(
+/// A move in an order: record order, or that of the index of this number; from a record or the end of file.
+pub(crate) fn make_move<K: KeyList, F: Fn(&Row<'_>) -> bool>(
     table: &Table,
     slots: &mut Vec<Slot<K>>,
     order: Option<u8>,
-    asked: Asked<'_>,
+    pointer: Option<u32>,
+    asked: RowMove,
     see: &F,
     budget: u64,
 ) -> Result<Landed, Spent>
-    requires indexed { IsIndexed table.now.structure table.now.rows slots.old.items }
-    requires order { IsOrder order (indexed table.now.structure table.now.rows slots.old.items) }
-    requires keyed { IsAskedIn order asked }
+    requires indexed { IsIndexed table.now slots.old.items }
+    requires order { IsOrder order (indexed table.now slots.old.items) }
     requires callable { MayAskRows F.pre see.now table.now.structure }
     ensures lands { (shown : ℕ → Bool) → ShowsRows (FnReturnsAt F.Fn) see.now table.now.structure table.now.rows shown
-        → IsMove (asked_landing shown asked.entry
-        (order_key order (indexed table.now.structure table.now.rows slots.old.items))
-        (order_pairs order (indexed table.now.structure table.now.rows slots.old.items))) budget result }
+        → IsMove (landing_of shown asked (pair_at order (indexed table.now slots.old.items) pointer)
+        (order_pairs order (indexed table.now slots.old.items))) budget result }
     ensures same { slots.new.items ≡ slots.old.items }
 {
     index_lists();
@@ -72,15 +70,46 @@ pub(crate) fn carry_out<K: KeyList, F: Fn(&Row<'_>) -> bool>(
             → ShowsRows (FnReturnsAt F.Fn) see.entry.now table.entry.now.structure table.entry.now.rows shown
             → result ≡ shown n }
     { shows(see, table, n) };
-    match (order, asked) {
-        (Some(number), _) => {
+    match order {
+        Some(number) => {
             let place = place_of(slots, number);
-            slots[place].carry_out(table, asked, &test, budget)
+            slots[place].make_move(table, pointer, asked, &test, budget)
         }
-        (None, Asked::Move { to, pointer }) => {
+        None => {
             let count = table.rows() as u32;
-            make_move(&mut Records { count }, pointer, to, &test, budget)
+            row_moves::make_move(&mut Records { count }, pointer, asked, &test, budget)
         }
-        (None, Asked::Key { .. }) => unreachable!(),
     }
+}
+
+/// SEEK in the index of this number.
+pub(crate) fn seek<K: KeyList, F: Fn(&Row<'_>) -> bool>(
+    table: &Table,
+    slots: &mut Vec<Slot<K>>,
+    number: u8,
+    text: &[u8],
+    exact: bool,
+    see: &F,
+    budget: u64,
+) -> Result<Landed, Spent>
+    requires indexed { IsIndexed table.now slots.old.items }
+    requires order { IsOrder (Some number) (indexed table.now slots.old.items) }
+    requires callable { MayAskRows F.pre see.now table.now.structure }
+    ensures lands { (shown : ℕ → Bool) → ShowsRows (FnReturnsAt F.Fn) see.now table.now.structure table.now.rows shown
+        → IsMove (sought shown exact text.now (order_pairs (Some number) (indexed table.now slots.old.items)))
+        budget result }
+    ensures same { slots.new.items ≡ slots.old.items }
+{
+    index_lists();
+    let test = |n: u32| -> bool
+        requires callable { MayAskRows F.pre see.now table.now.structure }
+        requires few { length table.now.rows ≤ 1000000 }
+        requires first { 1 ≤ n }
+        requires last { n ≤ length table.now.rows }
+        ensures { (shown : ℕ → Bool)
+            → ShowsRows (FnReturnsAt F.Fn) see.entry.now table.entry.now.structure table.entry.now.rows shown
+            → result ≡ shown n }
+    { shows(see, table, n) };
+    let place = place_of(slots, number);
+    slots[place].seek(table, text, exact, &test, budget)
 }

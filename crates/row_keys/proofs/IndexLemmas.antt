@@ -1,4 +1,4 @@
--- How indexes go along with a change of their table.
+-- How lists of keys go along with a change of their table.
 use Rattle.std.proofs.Common.{◌≡◌, ◌≢◌, ℕ, zero, suc, ◌+◌, ◌<◌, false, ◌==◌, List, [], ◌∷◌, ◌++◌}
 use Rattle.std.proofs.Common.{length, set, refl, sym, ap, ◌∙◌, subst, arith}
 use Rattle.std.proofs.lemmas.Bool.{eqb-false, or_parts}
@@ -9,25 +9,25 @@ use Rattle.dbf_file.specs.Tables.{StructureState, row_widths}
 use Rattle.key_lists.specs.KeyForm.{KeyForm, IsKeyText}
 use Rattle.key_lists.specs.Order.{inserted, without}
 use Rattle.key_lists.specs.Pairs.{Pair, is_before}
+use Rattle.key_lists.specs.SortedList.{SortedList}
 use Rattle.shape.specs.declared.parts.KeyPart.{KeyPart}
 use Rattle.shape.specs.Keys.{IsKey, cased, part_text, key_of, key_length}
-use Rattle.row_keys.specs.Lists.{index_list, row_pair, IsIndexList, IndexState, IsIndexOf, IsExact, IsSameIndex}
-use Rattle.row_keys.specs.Lists.{IsAsBefore, HasAdded, names_field}
+use Rattle.row_keys.specs.Lists.{index_list, row_pair, IsIndexList, IsIndexOf, IsExact, IsAsBefore, HasAdded}
+use Rattle.row_keys.specs.Lists.{names_field}
 use Rattle.row_keys.proofs.ListLemmas.{index_list-same}
 
-pub sound_same : (s : StructureState) (a b : IndexState) → IsIndexOf s a → IsSameIndex a b → IsIndexOf s b
-sound_same s a b sound same = record {
-  key = subst (IsKey s) (sym same.parts) sound.key;
-  length = ap (λ f. f.key_length) same.form ∙ sound.length ∙ ap (λ ps. key_length ps (row_widths s)) (sym same.parts);
-  text = subst (λ (f : KeyForm). IsKeyText f.key_text) (sym same.form) sound.text;
+pub sound_same : (s : StructureState) (parts : List KeyPart) (a b : SortedList) → IsIndexOf s parts a
+    → b.form ≡ a.form → IsIndexOf s parts b
+sound_same s parts a b sound form = record {
+  key = sound.key;
+  length = ap (λ f. f.key_length) form ∙ sound.length;
+  text = subst (λ (f : KeyForm). IsKeyText f.key_text) (sym form) sound.text;
 }
 
-pub exact_same : (s : StructureState) (rows : List Row) (a b : IndexState) → IsExact s rows a → IsAsBefore a b
-    → IsExact s rows b
-exact_same s rows a b exact same = record {
-  sound = sound_same s a b exact.sound same.same;
-  pairs = same.pairs ∙ exact.pairs ∙ ap (λ ps. index_list ps rows) (sym same.same.parts);
-}
+pub exact_same : (s : StructureState) (rows : List Row) (parts : List KeyPart) (a b : SortedList)
+    → IsExact s rows parts a → IsAsBefore a b → IsExact s rows parts b
+exact_same s rows parts a b exact same =
+    record { sound = sound_same s parts a b exact.sound same.form; pairs = same.pairs ∙ exact.pairs }
 
 -- ---- rows that change
 
@@ -63,23 +63,24 @@ module _ (law : ListLaw) (s : StructureState) (rows : List Row) (row : Row) wher
   longer = rows ++ row ∷ []
 
   -- the new row's pair is in no list
-  pub exact-absent : (a : IndexState) → IsExact s rows a → Contains a.pairs (row_pair a.parts longer (length rows)) → ⊥
-  exact-absent a exact there =
-      let listed : Contains (index_list a.parts rows) (key_of a.parts row.texts, length rows + 1) =
-      subst (Contains (index_list a.parts rows)) (pair-end a.parts rows row)
-      (subst (λ ps. Contains ps (row_pair a.parts longer (length rows))) exact.pairs there) in
-      let w = (law a.parts rows).only (key_of a.parts row.texts) (length rows + 1) listed in
-      let e : length rows + 1 ≡ w.0 + 1 = number_of a.parts rows w.0 (key_of a.parts row.texts) (length rows + 1) w.2 in
+  pub exact-absent : (parts : List KeyPart) (a : SortedList) → IsExact s rows parts a
+      → Contains a.pairs (row_pair parts longer (length rows)) → ⊥
+  exact-absent parts a exact there =
+      let listed : Contains (index_list parts rows) (key_of parts row.texts, length rows + 1) =
+      subst (Contains (index_list parts rows)) (pair-end parts rows row)
+      (subst (λ ps. Contains ps (row_pair parts longer (length rows))) exact.pairs there) in
+      let w = (law parts rows).only (key_of parts row.texts) (length rows + 1) listed in
+      let e : length rows + 1 ≡ w.0 + 1 = number_of parts rows w.0 (key_of parts row.texts) (length rows + 1) w.2 in
       omega (arith, w.1, e)
 
-  pub exact-added : (a b : IndexState) → IsExact s rows a → HasAdded longer (length rows) a b → IsExact s longer b
-  exact-added a b exact added = record {
-    sound = sound_same s a b exact.sound added.same;
+  pub exact-added : (parts : List KeyPart) (a b : SortedList) → IsExact s rows parts a
+      → HasAdded longer (length rows) parts a b → IsExact s longer parts b
+  exact-added parts a b exact added = record {
+    sound = sound_same s parts a b exact.sound added.form;
     pairs =
-        added.pairs ∙ ap (λ p. inserted is_before p a.pairs) (pair-end a.parts rows row)
-        ∙ ap (inserted is_before (key_of a.parts row.texts, length rows + 1)) exact.pairs
-        ∙ sym ((law a.parts rows).added row)
-        ∙ ap (λ ps. index_list ps longer) (sym added.same.parts);
+        added.pairs ∙ ap (λ p. inserted is_before p a.pairs) (pair-end parts rows row)
+        ∙ ap (inserted is_before (key_of parts row.texts, length rows + 1)) exact.pairs
+        ∙ sym ((law parts rows).added row);
   }
 
 -- ---- a row of which field f had this text before
@@ -100,41 +101,40 @@ module _ (s : StructureState) (rows : List Row) (r f : ℕ) (text : List ℕ) wh
   before = record { marked = (row_at rows r).marked; texts = set (row_at rows r).texts f text }
 
   -- a key that stays equal leaves the list as it is
-  pub exact-left : (a : IndexState) → key_of a.parts (set (row_at rows r).texts f text)
-      ≡ key_of a.parts (row_at rows r).texts → IsExact s (with_text rows r f text) a → IsExact s rows a
-  exact-left a same exact = record {
-    sound = exact.sound;
-    pairs = exact.pairs ∙ index_list-same a.parts rows r before same;
-  }
+  pub exact-left : (parts : List KeyPart) (a : SortedList) → key_of parts (set (row_at rows r).texts f text)
+      ≡ key_of parts (row_at rows r).texts → IsExact s (with_text rows r f text) parts a → IsExact s rows parts a
+  exact-left parts a same exact =
+      record { sound = exact.sound; pairs = exact.pairs ∙ index_list-same parts rows r before same }
 
-  module _ (law : ListLaw) (lt : r < length rows) (a : IndexState) (old : List ℕ) (mid : List Pair) where
-    there : IsExact s (with_text rows r f text) a → old ≡ key_of a.parts (set (row_at rows r).texts f text)
+  module _ (law : ListLaw) (lt : r < length rows) (parts : List KeyPart) (a : SortedList) (old : List ℕ)
+      (mid : List Pair) where
+    there : IsExact s (with_text rows r f text) parts a → old ≡ key_of parts (set (row_at rows r).texts f text)
         → mid ≡ without is_before (old, r + 1) a.pairs
-        → mid ≡ without is_before (row_pair a.parts (set rows r before) r) (index_list a.parts (set rows r before))
+        → mid ≡ without is_before (row_pair parts (set rows r before) r) (index_list parts (set rows r before))
     there exact e out =
         out ∙ ap (λ key. without is_before (key, r + 1) a.pairs) e
-        ∙ ap (λ p. without is_before p a.pairs) (sym (pair-set a.parts rows r before lt))
-        ∙ ap (without is_before (row_pair a.parts (set rows r before) r)) exact.pairs
+        ∙ ap (λ p. without is_before p a.pairs) (sym (pair-set parts rows r before lt))
+        ∙ ap (without is_before (row_pair parts (set rows r before) r)) exact.pairs
 
     -- while it is out, no pair has its number
-    pub followed-absent : IsExact s (with_text rows r f text) a → old
-        ≡ key_of a.parts (set (row_at rows r).texts f text) → mid ≡ without is_before (old, r + 1) a.pairs
+    pub followed-absent : IsExact s (with_text rows r f text) parts a → old
+        ≡ key_of parts (set (row_at rows r).texts f text) → mid ≡ without is_before (old, r + 1) a.pairs
         → (new : List ℕ) → Contains mid (new, r + 1) → ⊥
     followed-absent exact e out new is_in =
-        (law a.parts (set rows r before)).out r new (omega (arith, lt, length-set rows r before))
+        (law parts (set rows r before)).out r new (omega (arith, lt, length-set rows r before))
         (subst (λ ps. Contains ps (new, r + 1)) (there exact e out) is_in)
 
     -- a key that changed goes out and in again
-    pub followed : (b : IndexState) (new : List ℕ) → IsExact s (with_text rows r f text) a → IsSameIndex a b
-        → old ≡ key_of a.parts (set (row_at rows r).texts f text) → mid ≡ without is_before (old, r + 1) a.pairs
-        → new ≡ key_of a.parts (row_at rows r).texts → b.pairs ≡ inserted is_before (new, r + 1) mid → IsExact s rows b
-    followed b new exact same e out is_new put = record {
-      sound = sound_same s a b exact.sound same;
+    pub followed : (b : SortedList) (new : List ℕ) → IsExact s (with_text rows r f text) parts a → b.form ≡ a.form
+        → old ≡ key_of parts (set (row_at rows r).texts f text) → mid ≡ without is_before (old, r + 1) a.pairs
+        → new ≡ key_of parts (row_at rows r).texts → b.pairs ≡ inserted is_before (new, r + 1) mid
+        → IsExact s rows parts b
+    followed b new exact form e out is_new put = record {
+      sound = sound_same s parts a b exact.sound form;
       pairs =
           put ∙ ap (λ key. inserted is_before (key, r + 1) mid) is_new
-          ∙ ap (inserted is_before (key_of a.parts (row_at rows r).texts, r + 1)) (there exact e out)
-          ∙ sym ((law a.parts (set rows r before)).changed r (row_at rows r)
+          ∙ ap (inserted is_before (key_of parts (row_at rows r).texts, r + 1)) (there exact e out)
+          ∙ sym ((law parts (set rows r before)).changed r (row_at rows r)
           (omega (arith, lt, length-set rows r before)))
-          ∙ ap (index_list a.parts) (set-set rows r before (row_at rows r) ∙ set-get_or rows r no_row)
-          ∙ ap (λ ps. index_list ps rows) (sym same.parts);
+          ∙ ap (index_list parts) (set-set rows r before (row_at rows r) ∙ set-get_or rows r no_row);
     }

@@ -7,6 +7,7 @@ use Rattle.dbf_file.specs.Tables.{StructureState, row_widths}
 use Rattle.key_lists.specs.KeyForm.{KeyForm, IsKeyText}
 use Rattle.key_lists.specs.Order.{IsAscending, inserted, without, in_order}
 use Rattle.key_lists.specs.Pairs.{Pair, is_before}
+use Rattle.key_lists.specs.SortedList.{SortedList}
 use Rattle.row_keys.specs.declared.building.Kept.{Kept}
 use Rattle.row_keys.specs.declared.building.Kept.TheVariants.{Every, Unmarked, Nothing}
 use Rattle.shape.specs.declared.parts.KeyPart.{KeyPart}
@@ -62,43 +63,36 @@ pub record IsIndexList (parts : List KeyPart) (rows : List Row) : Type 0 where
 abbrev pub names_field : List KeyPart → ℕ → Bool
 names_field parts f = list_any (λ part. part.field == f) parts
 
--- ---- indexes
+-- ---- lists of keys
 
--- what callers see of an index: its key's parts, the pairs that it lists, what its keys look like, and for how many
--- more pairs there is room
-pub record IndexState : Type 0 where
-  pub parts : List KeyPart
-  pub pairs : List Pair
-  pub form : KeyForm
-  pub spare : ℕ
+-- what callers see of a list whose pairs, reservation and form are found so
+abbrev pub list_by : {L : Type 0} → (L → List Pair) → (L → ℕ) → (L → KeyForm) → L → SortedList
+list_by pairs spare form list = record { pairs = pairs list; spare = spare list; form = form list }
 
--- an index of a table of this structure
-pub record IsIndexOf (structure : StructureState) (index : IndexState) : Type 0 where
-  pub key : IsKey structure index.parts
-  pub length : index.form.key_length ≡ key_length index.parts (row_widths structure)
-  pub text : IsKeyText index.form.key_text
+-- a list of the keys that these parts make in a table of this structure
+pub record IsIndexOf (structure : StructureState) (parts : List KeyPart) (list : SortedList) : Type 0 where
+  pub key : IsKey structure parts
+  pub length : list.form.key_length ≡ key_length parts (row_widths structure)
+  pub text : IsKeyText list.form.key_text
 
 -- it lists the rows
-pub record IsExact (structure : StructureState) (rows : List Row) (index : IndexState) : Type 0 where
-  pub sound : IsIndexOf structure index
-  pub pairs : index.pairs ≡ index_list index.parts rows
-
--- keys are made as before
-pub record IsSameIndex (old new : IndexState) : Type 0 where
-  pub parts : new.parts ≡ old.parts
-  pub form : new.form ≡ old.form
+pub record IsExact (structure : StructureState) (rows : List Row) (parts : List KeyPart)
+    (list : SortedList) : Type 0 where
+  pub sound : IsIndexOf structure parts list
+  pub pairs : list.pairs ≡ index_list parts rows
 
 -- as it was, but for its room
-pub record IsAsBefore (old new : IndexState) : Type 0 where
-  pub same : IsSameIndex old new
+pub record IsAsBefore (old new : SortedList) : Type 0 where
+  pub form : new.form ≡ old.form
   pub pairs : new.pairs ≡ old.pairs
 
 -- the pair of row r put in
-pub record HasAdded (rows : List Row) (r : ℕ) (old new : IndexState) : Type 0 where
-  pub same : IsSameIndex old new
-  pub pairs : new.pairs ≡ inserted is_before (row_pair old.parts rows r) old.pairs
+pub record HasAdded (rows : List Row) (r : ℕ) (parts : List KeyPart) (old new : SortedList) : Type 0 where
+  pub form : new.form ≡ old.form
+  pub pairs : new.pairs ≡ inserted is_before (row_pair parts rows r) old.pairs
 
 -- keys are made as before, and the list is that of these rows
-pub record HasFollowed (structure : StructureState) (rows : List Row) (old new : IndexState) : Type 0 where
-  pub same : IsSameIndex old new
-  pub exact : IsExact structure rows new
+pub record HasFollowed (structure : StructureState) (rows : List Row) (parts : List KeyPart)
+    (old new : SortedList) : Type 0 where
+  pub form : new.form ≡ old.form
+  pub exact : IsExact structure rows parts new

@@ -1,4 +1,4 @@
-//! Indexes made anew from a table's rows.
+//! Lists made anew from a table's rows.
 
 ghost use Rattle.std.specs.Prelude.{◌≡◌, ◌+◌, ◌≤◌, ◌<◌, ◌∷◌, [], ◌++◌, if◌then◌else◌, IfOk, OnOk};
 ghost use Rattle.std.specs.Prelude.{length};
@@ -7,9 +7,8 @@ ghost use Rattle.dbf_file.specs.Tables.{row_widths};
 ghost use Rattle.key_lists.specs.KeyForm.{IsKeyText, IsPairOf};
 ghost use Rattle.key_lists.specs.Order.{Each};
 ghost use Rattle.shape.specs.Keys.{IsKey, key_of, key_length};
-ghost use Rattle.row_keys.specs.Lists.{row_pairs, is_kept, kept_rows, IsExact};
+ghost use Rattle.row_keys.specs.Lists.{row_pairs, is_kept, kept_rows, list_by, IsExact};
 
-use crate::index::Index;
 use dbf_file::Table;
 use key_lists::{Entry, KeyList};
 use shape::KeyParts;
@@ -114,24 +113,24 @@ fn pass(alloc: Global, table: &Table, key: &KeyParts, kept: Kept) -> Result<Vec<
     Ok(entries)
 }
 
-/// An index made anew of the rows that are kept, numbered in their order: it lists them. `key_text` (at most 100 bytes,
-/// none of them zero) says how the keys are made.
+/// The list, made anew, of the rows that are kept, numbered in their order. `key_text` (at most 100 bytes, none of them
+/// zero) says how the keys are made.
 pub fn build_of<K: KeyList>(
     alloc: Global,
     table: &Table,
-    key: KeyParts,
+    key: &KeyParts,
     key_text: &[u8],
     kept: Kept,
-) -> Result<Index<K>, AllocError>
+) -> Result<K, AllocError>
     requires few { length table.now.rows ≤ 1000000 }
-    requires key { IsKey table.now.structure key }
+    requires key { IsKey table.now.structure key.now }
     requires key_text { IsKeyText key_text.now }
-    ensures exact { IfOk result (λ index. IsExact table.now.structure (kept_rows kept table.now.rows) index) }
-    ensures parts { IfOk result (λ index. index.parts ≡ key) }
-    ensures key_text { IfOk result (λ index. index.form.key_text ≡ key_text.now) }
+    ensures exact { IfOk result (λ list. IsExact table.now.structure (kept_rows kept table.now.rows) key.now
+        (list_by K.pairs K.spare K.form list)) }
+    ensures key_text { IfOk result (λ list. (K.form list).key_text ≡ key_text.now) }
 {
     let length = key.length(table);
-    let entries = entries_of(alloc, table, &key, kept)?;
+    let entries = entries_of(alloc, table, key, kept)?;
     let list = K::rebuild(alloc, length, key_text, entries)?;
-    Ok(Index::new(key, list))
+    Ok(list)
 }

@@ -28,7 +28,7 @@ use crate::tables::{declare_all, unused_tables};
 use crate::uses::Use;
 use dbf_file::Table;
 use key_lists::KeyList;
-use open_table::{AppendError, IndexedTable, OpenTable, Refused, Row};
+use open_table::{AppendError, OpenTable, Refused, Row};
 use row_moves::{RowMove, Spent};
 use shape::Shape;
 use shape::laws::legal_shapes_have_keys;
@@ -527,7 +527,7 @@ impl<K: KeyList> Store<K> {
         ensures { IfSome (table_at self.now table)
             (λ o. result ≡ list_all (λ n. is_some (mark_at o.table.marks n)) indexes.now) }
     {
-        has_all(self.tables[usize::from(table)].table(), indexes)
+        has_all(&self.tables[usize::from(table)], indexes)
     }
 
     /// The value of field `f`, counted from 0, of the record that an open area, 1 to 10, points to, lent from there; at
@@ -596,7 +596,7 @@ impl<K: KeyList> Store<K> {
         ensures structure { IfSome (table_at self.now t) (λ o. result.now.structure ≡ o.table.structure) }
         ensures rows { IfSome (table_at self.now t) (λ o. result.now.rows ≡ o.table.rows) }
     {
-        self.tables[usize::from(t)].table().table()
+        self.tables[usize::from(t)].table()
     }
 
     /// The list of an open index of a declared table, by its place among those that are open there, both counted from
@@ -632,8 +632,8 @@ impl<K: KeyList> Store<K> {
             (λ o. K.form keys.now ≡ form_in o.table.structure (mark_at o.table.marks number))) }
     {
         for (t, table) in self.tables.iter().enumerate() {
-            if table.table().has_index(number) {
-                return table.table().keys(number);
+            if table.has_index(number) {
+                return table.keys(number);
             }
         }
         None
@@ -650,8 +650,8 @@ fn close_tables<K: KeyList>(tables: &mut Vec<OpenTable<K>>)
 }
 
 /// Whether a table has indexes of all these numbers.
-fn has_all<K: KeyList>(table: &IndexedTable<K>, indexes: &[u8]) -> bool
-    ensures { result ≡ list_all (λ n. is_some (mark_at table.now.marks n)) indexes.now }
+fn has_all<K: KeyList>(table: &OpenTable<K>, indexes: &[u8]) -> bool
+    ensures { result ≡ list_all (λ n. is_some (mark_at table.now.table.marks n)) indexes.now }
 {
     let mut rest = indexes;
     while let Some((number, others)) = rest.split_first() {

@@ -17,7 +17,7 @@ ghost use Rattle.work_area.specs.Making.{mark_for, unused};
 use arrayvec::ArrayVec;
 use dbf_file::{Field, Table};
 use key_lists::KeyList;
-use open_table::{IndexedTable, OpenTable};
+use open_table::OpenTable;
 use shape::laws::fitting_keys_are_keys;
 use shape::{IndexShape, KeyParts, Shape, TableShape};
 use std::alloc::{AllocError, Global};
@@ -32,7 +32,7 @@ pub(crate) fn unused_tables<K: KeyList>(
 {
     let mut made = Vec::with_capacity(alloc, tables.len())?;
     for table in tables {
-        made.push(OpenTable::new(IndexedTable::new(alloc, table)))?;
+        made.push(OpenTable::new(alloc, table))?;
     }
     Ok(made)
 }

@@ -41,8 +41,8 @@ fn listed<K: KeyList>(
     if !has_key(table, &key) {
         return Ok((0, 0));
     }
-    let index = build_of::<K>(alloc, table, key, b"K", kept)?;
-    Ok((index.list().len(), index.list().key_length()))
+    let list = build_of::<K>(alloc, table, &key, b"K", kept)?;
+    Ok((list.len(), list.key_length()))
 }
 
 // The rows B, A, C, A, of which the first is marked.

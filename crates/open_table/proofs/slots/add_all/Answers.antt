@@ -11,7 +11,7 @@ add_row-requires-clause-index g c =
     let i = c.loop-slot.slot-index in
     let within : i < length c.args.slots.now.items = omega (arith, c.loop-slot.invariant.len) in
     let same = c.loop-slot.invariant.left i c.slot-item.result (omega arith) (omega arith) in
-    subst (λ (x : SlotState). IfSome x.index (IsIndexOf c.args.table.now.structure)) (sym same)
+    subst (λ (x : SlotState). IfSome x.index (IsIndexOf c.args.table.now.structure x.parts)) (sym same)
     (c.requires.index i c.slot-item.result within)
 
 pub add_row-requires-clause-reserved : goal.add_row-requires-clause-reserved
@@ -27,8 +27,8 @@ add_row-requires-clause-absent g c =
     let i = c.loop-slot.slot-index in
     let within : i < length c.args.slots.now.items = omega (arith, c.loop-slot.invariant.len) in
     let same = c.loop-slot.invariant.left i c.slot-item.result (omega arith) (omega arith) in
-    subst (λ (x : SlotState). IfSome x.index
-    (λ x. ¬ Contains x.pairs (row_pair x.parts c.args.table.now.rows c.args.r))) (sym same)
+    subst (λ (slot : SlotState). IfSome slot.index
+    (λ x. ¬ Contains x.pairs (row_pair slot.parts c.args.table.now.rows c.args.r))) (sym same)
     (c.requires.absent i c.slot-item.result within)
 
 pub loop-slot-preserved : goal.loop-slot-preserved

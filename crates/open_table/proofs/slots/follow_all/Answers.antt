@@ -12,7 +12,7 @@ follow-requires-clause-exact g c =
     let within : i < length c.args.slots.now.items = omega (arith, c.loop-slot.invariant.len) in
     let same = c.loop-slot.invariant.left i c.slot-item.result (omega arith) (omega arith) in
     subst (λ (x : SlotState). IfSome x.index
-    (IsExact c.args.table.now.structure (with_text c.args.table.now.rows c.args.r c.args.f c.args.before.now)))
+    (IsExact c.args.table.now.structure (with_text c.args.table.now.rows c.args.r c.args.f c.args.before.now) x.parts))
     (sym same) (c.requires.exact i c.slot-item.result within)
 
 pub follow-requires-clause-reserved : goal.follow-requires-clause-reserved

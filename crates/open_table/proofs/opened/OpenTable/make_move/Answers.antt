@@ -1,32 +1,28 @@
 use Rattle.std.proofs.Common.{◌≡◌, ℕ, Option, ap, ◌∙◌, subst}
 use Rattle.std.specs.Fn.{FnReturnsAt}
 use Rattle.row_moves.specs.Moves.{IsMove, Landing, landing_of}
-use Rattle.open_table.specs.Tables.{IndexedState, order_pairs, pair_at}
+use Rattle.open_table.specs.Tables.{IndexedState, indexed, order_pairs, pair_at}
 use Rattle.open_table.specs.Tried.{ShowsRows}
 use Rattle.open_table.specs.Open.{OpenState, IsMoved, landed, order_index}
+use Rattle.open_table.proofs.OpenLemmas.{used}
 use Rattle.open_table.proofs.opened.OpenTable.make_move.Goals as goal
 
 pub returns : goal.returns
 returns g c = λ shown sees.
     let now : OpenState = c.args.self.now in
     let inside = c.self.inside in
+    let old : IndexedState = indexed inside.table inside.slots.items in
     let answer = c.make_move-moved.result in
     let led : Option ℕ → IndexedState → Option ℕ → Landing =
     λ o t p. landing_of shown c.args.asked (pair_at o t p) (order_pairs o t) in
-    let table : inside.table ≡ now.table = ap (λ (s : OpenState). s.table) c.self.view_is in
-    let with_it : IndexedState → OpenState = λ t.
-    record {
-      table = t;
-      list = inside.list.items;
-      order = inside.order;
-      pointer = inside.pointer;
-      bof = inside.bof;
-      found = inside.found;
-    } in
-    let same : with_it c.make_move-moved.new.self ≡ now = ap with_it c.make_move-moved.ensures.same ∙ c.self.view_is in
+    let table : old ≡ now.table = ap (λ (s : OpenState). s.table) c.self.view_is in
+    let with_it : IndexedState → OpenState =
+    used inside.list.items inside.order inside.pointer inside.bof inside.found in
+    let same : with_it (indexed inside.table c.make_move-moved.new.slots.items) ≡ now =
+    ap (λ xs. with_it (indexed inside.table xs)) c.make_move-moved.ensures.same ∙ c.self.view_is in
     let said = subst (λ (t : IndexedState). ShowsRows (FnReturnsAt g.F.Fn) c.args.see t.structure t.rows shown
     → IsMove (led c.order_index-order.result t now.pointer) c.args.budget answer) table
-    (λ seen. subst (λ p. IsMove (led c.order_index-order.result inside.table p) c.args.budget answer)
+    (λ seen. subst (λ p. IsMove (led c.order_index-order.result old p) c.args.budget answer)
     (ap (λ (s : OpenState). s.pointer) c.self.view_is) (c.make_move-moved.ensures.lands shown seen)) in
     let moved = subst (λ (o : Option ℕ). IsMove (led o now.table now.pointer) c.args.budget answer)
     c.order_index-order.ensures.value (said sees) in

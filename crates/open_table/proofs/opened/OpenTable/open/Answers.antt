@@ -1,69 +1,30 @@
-use Rattle.std.proofs.Common.{◌≡◌, ℕ, ◌*◌, true, Option, length, is_some, sym, ap, ◌∙◌, subst, arith}
-use Rattle.std.specs.List.{All}
+use Rattle.std.proofs.Common.{◌≡◌, ◌*◌, true, length, ap, ◌∙◌, subst}
 use Rattle.std.specs.Prelude.{slice_get}
-use Rattle.std.specs.Fn.{FnReturnsAt}
-use Rattle.row_moves.specs.Moves.{Landing, Lands, end_of}
-use Rattle.open_table.specs.Marks.{mark_at, count_stale}
-use Rattle.open_table.specs.Passes.{at_higher_cost, IsRefusal}
-use Rattle.open_table.specs.Tables.{IndexedState, remade, order_pairs}
-use Rattle.open_table.specs.Tried.{ShowsRows}
-use Rattle.open_table.specs.Open.{OpenState, IsOpen, opened, landed}
-use Rattle.open_table.proofs.OpenLemmas.{open_made}
+use Rattle.row_moves.specs.Moves.{end_of}
+use Rattle.open_table.specs.Marks.{count_stale}
+use Rattle.open_table.specs.Passes.{at_higher_cost}
+use Rattle.open_table.specs.Tables.{IndexedState, order_pairs}
+use Rattle.open_table.specs.Open.{OpenState, IsEnded, opened, landed}
+use Rattle.open_table.proofs.MakingLemmas.{pays_for}
 use Rattle.open_table.proofs.opened.OpenTable.open.Goals as goal
 
-pub invariant_of-self : goal.invariant_of-self
-invariant_of-self g c =
-    let old = c.self.inside.table in
-    let list = c.args.list.now in
-    let order = c.order_of-self-inside.result in
-    let table : old ≡ c.args.self.now.table = ap (λ (s : OpenState). s.table) c.self.view_is in
-    let declared = subst (λ (t : IndexedState). All (λ n. is_some (mark_at t.marks n) ≡ true) list) (sym table)
-    c.requires.declared in
-    let made = open_made old c.open.new.self list order c.requires.few c.order_of-self-inside.ensures.within declared
-    (ap (λ (t : IndexedState). t.marks) {y = remade list old} c.in-Ok.ensures.ok) in
-    subst (λ xs. IsOpen c.open.new.self xs order) (sym c.held-self-inside.ensures) made
-
-pub returns-in-Ok : goal.returns-in-Ok
-returns-in-Ok g c = λ shown sees.
-    let now : OpenState = c.args.self.now in
-    let list = c.args.list.now in
-    let table : c.self.inside.table ≡ now.table = ap (λ (s : OpenState). s.table) c.self.view_is in
-    let landing : Option ℕ → Landing = λ o. at_higher_cost (length now.table.rows * count_stale list now.table.marks)
-    (end_of shown true (order_pairs o now.table)) in
-    let lands = subst (λ (t : IndexedState). ShowsRows (FnReturnsAt g.F.Fn) c.args.see t.structure t.rows shown
-    → Lands (at_higher_cost (length t.rows * count_stale list t.marks)
-    (end_of shown true (order_pairs (slice_get list 0) t))) c.args.budget c.in-Ok.landed) table
-    (c.in-Ok.ensures.lands shown) sees in
-    let made : c.open.new.self ≡ remade list now.table = c.in-Ok.ensures.ok ∙ ap (remade list) table in
-    let there : c.land.new.self ≡ landed (opened list now) (landing (slice_get list 0)) = c.land.ensures.there
-    ∙ (λ i. record {
-      table = made i;
-      list = c.held-self-inside.ensures i;
-      order = c.order_of-self-inside.ensures.value
-          i;
-      pointer = lands.row i;
-      bof = lands.bof i;
-      found = lands.found i;
-    }) in
-    (c.land.ensures.cost ∙ lands.cost, omega (arith, c.land.ensures.cost, lands.within), there)
+pub open_made-requires-clause-paid : goal.open_made-requires-clause-paid
+open_made-requires-clause-paid g c = λ stale.
+    let t : IndexedState = c.args.self.now.table in
+    let base : c.from.result * c.stale_in.result ≡ length t.rows * count_stale c.args.list.now t.marks =
+    ap (λ n. n * c.stale_in.result) (c.from.ensures ∙ c.reccount.ensures.count)
+    ∙ ap (λ k. length t.rows * k) (c.stale_in.ensures.value
+    ∙ ap (λ (s : OpenState). count_stale c.args.list.now s.table.marks) c.self.view_is) in
+    pays_for c.args.list.now t (c.from.result * c.stale_in.result) base stale
 
 pub returns : goal.returns
 returns g c = λ shown sees.
     let now : OpenState = c.args.self.now in
     let list = c.args.list.now in
-    let inside = c.self.inside in
-    let table : inside.table ≡ now.table = ap (λ (s : OpenState). s.table) c.self.view_is in
-    let with_it : IndexedState → OpenState = λ t.
-    record {
-      table = t;
-      list = inside.list.items;
-      order = inside.order;
-      pointer = inside.pointer;
-      bof = inside.bof;
-      found = inside.found;
-    } in
-    let refused = subst (λ (t : IndexedState). ShowsRows (FnReturnsAt g.F.Fn) c.args.see t.structure t.rows shown
-    → IsRefusal (at_higher_cost (length t.rows * count_stale list t.marks)
-    (end_of shown true (order_pairs (slice_get list 0) t))) c.args.budget c.in-Err.refused) table
-    (c.in-Err.ensures.lands shown) sees in
-    (refused, ap with_it c.in-Err.ensures.err ∙ c.self.view_is)
+    let base : c.from.result * c.stale_in.result ≡ length now.table.rows * count_stale list now.table.marks =
+    ap (λ n. n * c.stale_in.result) (c.from.ensures ∙ c.reccount.ensures.count)
+    ∙ ap (λ k. length now.table.rows * k) (c.stale_in.ensures.value
+    ∙ ap (λ (s : OpenState). count_stale list s.table.marks) c.self.view_is) in
+    subst (λ b. IsEnded (landed (opened list now)) now c.open_made.new.self (at_higher_cost b
+    (end_of shown true (order_pairs (slice_get list 0) now.table))) c.args.budget c.open_made.result) base
+    (c.open_made.ensures shown sees)

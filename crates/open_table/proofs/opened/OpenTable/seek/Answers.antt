@@ -1,26 +1,22 @@
 use Rattle.std.proofs.Common.{◌≡◌, ℕ, Option, Some, ap, ◌∙◌, subst}
 use Rattle.std.specs.Fn.{FnReturnsAt}
 use Rattle.row_moves.specs.Moves.{IsMove, sought}
-use Rattle.open_table.specs.Tables.{IndexedState, order_pairs}
+use Rattle.open_table.specs.Tables.{IndexedState, indexed, order_pairs}
 use Rattle.open_table.specs.Tried.{ShowsRows}
 use Rattle.open_table.specs.Open.{OpenState, IsMoved, landed, order_index}
+use Rattle.open_table.proofs.OpenLemmas.{used}
 use Rattle.open_table.proofs.opened.OpenTable.seek.Goals as goal
 
 pub returns : goal.returns
 returns g c = λ shown sees.
     let now : OpenState = c.args.self.now in
     let inside = c.self.inside in
-    let table : inside.table ≡ now.table = ap (λ (s : OpenState). s.table) c.self.view_is in
-    let with_it : IndexedState → OpenState = λ t.
-    record {
-      table = t;
-      list = inside.list.items;
-      order = inside.order;
-      pointer = inside.pointer;
-      bof = inside.bof;
-      found = inside.found;
-    } in
-    let same : with_it c.seek-moved.new.self ≡ now = ap with_it c.seek-moved.ensures.same ∙ c.self.view_is in
+    let old : IndexedState = indexed inside.table inside.slots.items in
+    let table : old ≡ now.table = ap (λ (s : OpenState). s.table) c.self.view_is in
+    let with_it : IndexedState → OpenState =
+    used inside.list.items inside.order inside.pointer inside.bof inside.found in
+    let same : with_it (indexed inside.table c.seek-moved.new.slots.items) ≡ now =
+    ap (λ xs. with_it (indexed inside.table xs)) c.seek-moved.ensures.same ∙ c.self.view_is in
     let said = subst (λ (t : IndexedState). ShowsRows (FnReturnsAt g.F.Fn) c.args.see t.structure t.rows shown
     → IsMove (sought shown c.args.exact c.args.text.now (order_pairs (Some c.key_index-number.result) t))
     c.args.budget c.seek-moved.result) table (c.seek-moved.ensures.lands shown) in

@@ -1,45 +1,15 @@
-use Rattle.std.proofs.Common.{◌≡◌, true, [], sym, ap, ◌∙◌, subst}
-use Rattle.row_moves.specs.Moves.{Landing, end_of}
-use Rattle.open_table.specs.Tables.{IndexedState, emptied}
-use Rattle.open_table.specs.Open.{OpenState, IsOpen, in_table}
-use Rattle.open_table.proofs.OpenLemmas.{open_packed, either, ended_by, on_ok, on_err}
+use Rattle.std.proofs.Common.{ap}
+use Rattle.open_table.specs.Tables.{IndexedState, indexed, emptied}
+use Rattle.open_table.proofs.OpenLemmas.{open_packed}
 use Rattle.open_table.proofs.opened.OpenTable.zap.Goals as goal
 
 pub invariant_of-self : goal.invariant_of-self
 invariant_of-self g c =
-    let old = c.self.inside.table in
-    let list = c.self.inside.list.items in
-    let new = emptied c.as_slice.result.now old in
-    either c.zap-ended.result (c.zap-ended.new.self ≡ new) (c.zap-ended.new.self ≡ old)
-    (IsOpen c.zap-ended.new.self list c.self.inside.order) c.zap-ended.ensures.ok c.zap-ended.ensures.err
-    (λ e. open_packed old c.zap-ended.new.self list c.as_slice.result.now c.self.inside.order c.as_slice.ensures.value
-    c.self.invariant (ap (λ (t : IndexedState). t.marks) {y = new} e))
-    (λ e. subst (λ t. IsOpen t list c.self.inside.order) (sym e) c.self.invariant)
-
-pub returns : goal.returns
-returns g c = λ shown.
-    let now : OpenState = c.args.self.now in
-    let inside = c.self.inside in
-    let numbers = c.as_slice.result.now in
-    let table : inside.table ≡ now.table = ap (λ (s : OpenState). s.table) c.self.view_is in
-    let list : numbers ≡ now.list = c.as_slice.ensures.value ∙ ap (λ (s : OpenState). s.list) c.self.view_is in
-    let with_it : IndexedState → OpenState = λ t.
+    let old : IndexedState = indexed c.self.inside.table c.self.inside.slots.items in
+    let new : IndexedState = indexed c.clear.new.table c.clear.new.slots.items in
     record {
-      table = t;
-      list = inside.list.items;
-      order = inside.order;
-      pointer = inside.pointer;
-      bof = inside.bof;
-      found = inside.found;
-    } in
-    let changed : OpenState → OpenState = λ a. in_table a (emptied a.list a.table) in
-    let made : with_it (emptied numbers inside.table) ≡ changed now =
-    ap (λ l. with_it (emptied l inside.table)) c.as_slice.ensures.value ∙ ap changed c.self.view_is in
-    let ok = on_ok c.zap-ended.result (c.zap-ended.new.self ≡ emptied numbers inside.table)
-    (with_it c.zap-ended.new.self ≡ changed now) (λ e. ap with_it e ∙ made) c.zap-ended.ensures.ok in
-    let err = on_err c.zap-ended.result (c.zap-ended.new.self ≡ inside.table) (with_it c.zap-ended.new.self ≡ now)
-    (λ e. ap with_it e ∙ c.self.view_is) c.zap-ended.ensures.err in
-    let landing : Landing = end_of shown true [] in
-    ended_by c.zap-ended.result c.finish.result now (with_it c.zap-ended.new.self) (changed now) c.finish.new.self
-    landing c.args.budget ok err c.finish.ensures.same
-    (c.finish.ensures.ends landing c.args.budget (c.zap-ended.ensures.lands shown))
+      lists = c.clear.ensures.lists;
+      is_open = open_packed old new c.self.inside.list.items c.as_slice.result.now c.self.inside.order
+          c.as_slice.ensures.value c.self.invariant.is_open
+          (ap (λ (t : IndexedState). t.marks) {y = emptied c.as_slice.result.now old} c.in-Ok.ensures.ok);
+    }

@@ -1,5 +1,5 @@
 use Rattle.std.proofs.Common.{arith}
-use Rattle.open_table.proofs.table.IndexedTable.remake_and_top.Goals as goal
+use Rattle.open_table.proofs.closing.make_and_top.Goals as goal
 
 pub returns-in_default-clause-lands : goal.returns-in_default-clause-lands
 returns-in_default-clause-lands g c = c.in_default.ensures.lands
