@@ -29,8 +29,8 @@ invariant_of-self g c =
     (ap (λ (t : IndexedState). t.marks) {y = remade list old} c.in-Ok.ensures.ok) in
     subst (λ xs. IsOpen c.index_on.new.self xs order) (sym c.held-self-inside.ensures) made
 
-pub returns-in-Ok : goal.returns-in-Ok
-returns-in-Ok g c = λ shown sees.
+pub returns-in-Ok-clause-ends : goal.returns-in-Ok-clause-ends
+returns-in-Ok-clause-ends g c = λ shown sees.
     let now : OpenState = c.args.self.now in
     let list : List ℕ = c.args.number ∷ [] in
     let table : c.self.inside.table ≡ now.table = ap (λ (s : OpenState). s.table) c.self.view_is in
@@ -53,8 +53,8 @@ returns-in-Ok g c = λ shown sees.
     }) in
     (c.land.ensures.cost ∙ lands.cost, omega (arith, c.land.ensures.cost, lands.within), there)
 
-pub returns : goal.returns
-returns g c = λ shown sees.
+pub returns-clause-ends : goal.returns-clause-ends
+returns-clause-ends g c = λ shown sees.
     let now : OpenState = c.args.self.now in
     let list : List ℕ = c.args.number ∷ [] in
     let inside = c.self.inside in
@@ -72,3 +72,14 @@ returns g c = λ shown sees.
     → IsRefusal (at_higher_cost (length t.rows) (end_of shown true (order_pairs (Some c.args.number) t)))
     c.args.budget c.in-Err.refused) table (c.in-Err.ensures.lands shown) sees in
     (said, ap with_it c.in-Err.ensures.err ∙ c.self.view_is)
+
+pub returns-in-Ok-clause-few : goal.returns-in-Ok-clause-few
+returns-in-Ok-clause-few g c =
+    let was = ap (λ (s : OpenState). length s.table.rows) c.self.view_is in
+    let made = ap (λ (t : IndexedState). length t.rows) c.in-Ok.ensures.ok in
+    let is = ap (λ (s : OpenState). length s.table.rows) c.land.ensures.there in omega (arith, was, made, is)
+
+pub returns-clause-few : goal.returns-clause-few
+returns-clause-few g c =
+    let was = ap (λ (s : OpenState). length s.table.rows) c.self.view_is in
+    let same = ap (λ (t : IndexedState). length t.rows) c.in-Err.ensures.err in omega (arith, was, same)

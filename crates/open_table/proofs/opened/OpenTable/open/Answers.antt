@@ -23,8 +23,8 @@ invariant_of-self g c =
     (ap (λ (t : IndexedState). t.marks) {y = remade list old} c.in-Ok.ensures.ok) in
     subst (λ xs. IsOpen c.open.new.self xs order) (sym c.held-self-inside.ensures) made
 
-pub returns-in-Ok : goal.returns-in-Ok
-returns-in-Ok g c = λ shown sees.
+pub returns-in-Ok-clause-ends : goal.returns-in-Ok-clause-ends
+returns-in-Ok-clause-ends g c = λ shown sees.
     let now : OpenState = c.args.self.now in
     let list = c.args.list.now in
     let table : c.self.inside.table ≡ now.table = ap (λ (s : OpenState). s.table) c.self.view_is in
@@ -47,8 +47,8 @@ returns-in-Ok g c = λ shown sees.
     }) in
     (c.land.ensures.cost ∙ lands.cost, omega (arith, c.land.ensures.cost, lands.within), there)
 
-pub returns : goal.returns
-returns g c = λ shown sees.
+pub returns-clause-ends : goal.returns-clause-ends
+returns-clause-ends g c = λ shown sees.
     let now : OpenState = c.args.self.now in
     let list = c.args.list.now in
     let inside = c.self.inside in
@@ -67,3 +67,14 @@ returns g c = λ shown sees.
     (end_of shown true (order_pairs (slice_get list 0) t))) c.args.budget c.in-Err.refused) table
     (c.in-Err.ensures.lands shown) sees in
     (refused, ap with_it c.in-Err.ensures.err ∙ c.self.view_is)
+
+pub returns-in-Ok-clause-few : goal.returns-in-Ok-clause-few
+returns-in-Ok-clause-few g c =
+    let was = ap (λ (s : OpenState). length s.table.rows) c.self.view_is in
+    let made = ap (λ (t : IndexedState). length t.rows) c.in-Ok.ensures.ok in
+    let is = ap (λ (s : OpenState). length s.table.rows) c.land.ensures.there in omega (arith, was, made, is)
+
+pub returns-clause-few : goal.returns-clause-few
+returns-clause-few g c =
+    let was = ap (λ (s : OpenState). length s.table.rows) c.self.view_is in
+    let same = ap (λ (t : IndexedState). length t.rows) c.in-Err.ensures.err in omega (arith, was, same)

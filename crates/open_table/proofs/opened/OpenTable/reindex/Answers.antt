@@ -1,11 +1,11 @@
-use Rattle.std.proofs.Common.{◌≡◌, ℕ, ◌*◌, true, Option, List, length, sym, ap, ◌∙◌, subst}
+use Rattle.std.proofs.Common.{◌≡◌, ℕ, ◌*◌, true, Option, List, length, sym, ap, ◌∙◌, subst, arith}
 use Rattle.std.specs.Fn.{FnReturnsAt}
 use Rattle.row_moves.specs.Moves.{Landing, end_of}
 use Rattle.open_table.specs.Passes.{at_higher_cost, EndsWithMove}
 use Rattle.open_table.specs.Tables.{IndexedState, remade, order_pairs}
 use Rattle.open_table.specs.Tried.{ShowsRows}
 use Rattle.open_table.specs.Open.{OpenState, IsOpen, in_table, order_index}
-use Rattle.open_table.proofs.OpenLemmas.{open_remade, either, ended_by, on_ok, on_err}
+use Rattle.open_table.proofs.OpenLemmas.{open_remade, either, ended_by, on_ok, on_err, no_more}
 use Rattle.open_table.proofs.opened.OpenTable.reindex.Goals as goal
 
 pub invariant_of-self : goal.invariant_of-self
@@ -20,8 +20,8 @@ invariant_of-self g c =
     (ap (λ (t : IndexedState). t.marks) {y = new} e))
     (λ e. subst (λ t. IsOpen t list c.self.inside.order) (sym e) c.self.invariant)
 
-pub returns : goal.returns
-returns g c = λ shown sees.
+pub returns-clause-ends : goal.returns-clause-ends
+returns-clause-ends g c = λ shown sees.
     let now : OpenState = c.args.self.now in
     let inside = c.self.inside in
     let numbers = c.as_slice.result.now in
@@ -60,3 +60,11 @@ returns g c = λ shown sees.
     ended_by c.reindex-ended.result c.finish.result now (with_it c.reindex-ended.new.self) (changed now)
     c.finish.new.self landing c.args.budget ok err c.finish.ensures.same
     (c.finish.ensures.ends landing c.args.budget ordered)
+
+pub returns-clause-few : goal.returns-clause-few
+returns-clause-few g c =
+    let old = c.self.inside.table in
+    let le = no_more c.reindex-ended.result old c.reindex-ended.new.self (remade c.as_slice.result.now old)
+    c.reindex-ended.ensures.ok c.reindex-ended.ensures.err (omega arith) in
+    let was = ap (λ (s : OpenState). length s.table.rows) c.self.view_is in
+    let is = ap (λ (t : IndexedState). length t.rows) c.finish.ensures.table in omega (arith, le, was, is)

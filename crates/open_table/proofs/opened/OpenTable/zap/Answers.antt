@@ -1,8 +1,8 @@
-use Rattle.std.proofs.Common.{◌≡◌, true, [], sym, ap, ◌∙◌, subst}
+use Rattle.std.proofs.Common.{◌≡◌, true, [], sym, ap, ◌∙◌, subst, length, arith}
 use Rattle.row_moves.specs.Moves.{Landing, end_of}
 use Rattle.open_table.specs.Tables.{IndexedState, emptied}
 use Rattle.open_table.specs.Open.{OpenState, IsOpen, in_table}
-use Rattle.open_table.proofs.OpenLemmas.{open_packed, either, ended_by, on_ok, on_err}
+use Rattle.open_table.proofs.OpenLemmas.{open_packed, either, ended_by, on_ok, on_err, no_more}
 use Rattle.open_table.proofs.opened.OpenTable.zap.Goals as goal
 
 pub invariant_of-self : goal.invariant_of-self
@@ -16,8 +16,8 @@ invariant_of-self g c =
     c.self.invariant (ap (λ (t : IndexedState). t.marks) {y = new} e))
     (λ e. subst (λ t. IsOpen t list c.self.inside.order) (sym e) c.self.invariant)
 
-pub returns : goal.returns
-returns g c = λ shown.
+pub returns-clause-ends : goal.returns-clause-ends
+returns-clause-ends g c = λ shown.
     let now : OpenState = c.args.self.now in
     let inside = c.self.inside in
     let numbers = c.as_slice.result.now in
@@ -43,3 +43,11 @@ returns g c = λ shown.
     ended_by c.zap-ended.result c.finish.result now (with_it c.zap-ended.new.self) (changed now) c.finish.new.self
     landing c.args.budget ok err c.finish.ensures.same
     (c.finish.ensures.ends landing c.args.budget (c.zap-ended.ensures.lands shown))
+
+pub returns-clause-few : goal.returns-clause-few
+returns-clause-few g c =
+    let old = c.self.inside.table in
+    let le = no_more c.zap-ended.result old c.zap-ended.new.self (emptied c.as_slice.result.now old)
+    c.zap-ended.ensures.ok c.zap-ended.ensures.err (omega arith) in
+    let was = ap (λ (s : OpenState). length s.table.rows) c.self.view_is in
+    let is = ap (λ (t : IndexedState). length t.rows) c.finish.ensures.table in omega (arith, le, was, is)
