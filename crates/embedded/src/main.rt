@@ -2,15 +2,15 @@
 #![tactic(auto)]
 
 ghost use Rattle.std.specs.Prelude.{OnOk, ◌∷◌, []};
-ghost use Rattle.tablereef.specs.Compiling.Compiling.{IsCompiled};
+ghost use Rattle.tablereef.specs.CompileCommands.Compiling.{IsCompiled};
 
 use std::alloc::Global;
 use std::io;
 use std::rt::Runtime;
-use tablereef::compiling::{CompileFilesRefusal, compile_files};
-use tablereef::files::{Files, MemoryEntry, MemoryFiles, WORKS_FOR_EVER};
-use tablereef::listings::verify_file;
-use tablereef::runs::{Job, RecordLimit, RunDay, run_files};
+use tablereef::compile_commands::{CompileFilesRefusal, compile_files};
+use tablereef::file_access::{Files, MemoryEntry, MemoryFiles, WORKS_FOR_EVER};
+use tablereef::file_commands::verify_file;
+use tablereef::run_commands::{Job, RecordLimit, RunDay, run_files};
 
 /// The declaration file, the command file, and the code file that is made of them.
 const DECLARATIONS: &str = "DAY.DCL";

@@ -1,7 +1,7 @@
 -- A run through instructions that only read goes over them one by one, and changes the stack alone.
 use Rattle.std.proofs.Common.{◌≡◌, ◌<◌, ◌≤◌, ℕ, zero, suc, ◌+◌, Bool, true, false, List, [], ◌∷◌, length, take, drop}
 use Rattle.std.proofs.Common.{Option, Some, None, refl, sym, ap, ◌∙◌, subst, arith}
-use Rattle.std.specs.Prelude.{slice_get, slice_index_or, option_and_then}
+use Rattle.std.specs.Prelude.{◌&&◌, slice_get, slice_index_or, option_and_then}
 use Rattle.std.proofs.Math.Seq.{take-length}
 use Rattle.std.proofs.lemmas.List.{get_or-drop, get_or-take}
 use Rattle.std.proofs.lemmas.Option.{slice_get_within, get_or_from_slice_get, same_Some, none-some}
@@ -22,7 +22,7 @@ use Rattle.run_values.specs.Tagged.{TaggedValues, loaded_value, pushed}
 use Rattle.run_steps.specs.World.{World, EnvState}
 use Rattle.run_steps.specs.Control.{effect, finishes}
 use Rattle.run_steps.specs.Effects.{with_pushed, on_table, answer, cost_of_instr}
-use Rattle.run_steps.specs.Run.{step_of, next_world, after, spent, cost_in, cost_at, cost_of}
+use Rattle.run_steps.specs.Run.{step_of, next_world, after, spent, cost_in, cost_at, cost_of, appends, holds_all}
 use Rattle.run_steps.specs.Faults.{fault_of, IsClear}
 use Rattle.run_steps.specs.Safe.{IsSafe}
 use Rattle.expr_laws.specs.Seeing.{IsThere, HasWay}
@@ -204,6 +204,15 @@ clearly code w block faultless way all = record {
       faultless (come_to code w block n) i (clear_there code (come_to code w block n) i r.passes next r.room);
 }
 
+adds_none : (i : Instr) → only_reads i ≡ true → appends i ≡ false
+adds_none (Values i) reads = refl
+adds_none (Records i) reads = of_records i reads
+  where
+    of_records : (r : RecordInstr) → record_reads r ≡ true → appends (Records r) ≡ false
+    of_records record_instr.Append reads = absurd (cc)
+    of_records _ reads = refl
+adds_none _ reads = refl
+
 step_on : (code : Code) (v : World) (i : Instr) → fault_of code v i ≡ None → instr_at code v.place ≡ i
     → only_reads i ≡ true → next_world (step_of code v)
     ≡ Some (moved 1 (world_run code v.values.slots v.env i v.values.stack) v)
@@ -213,7 +222,9 @@ step_on code v i sound is reads =
     next_is ∙ ap (λ (x : World). Some x) (ap (effect code v) is ∙ step_moves code v i reads)
   where
     next_is : next_world (step_of code v) ≡ Some (effect code v (instr_at code v.place))
-    next_is = rw (ap (fault_of code v) is ∙ sound, ap (finishes v) is ∙ goes_on v i reads) refl
+    next_is =
+        let room = ap (λ b. b && holds_all v.env.store.limit (here v.env.store)) (ap appends is ∙ adds_none i reads) in
+        rw (ap (fault_of code v) is ∙ sound, ap (finishes v) is ∙ goes_on v i reads, room) refl
 
 -- what the run comes to after some of the instructions, and what they cost
 record Reached (code : Code) (w : World) (block : List Instr) (n : ℕ) : Type 0 where

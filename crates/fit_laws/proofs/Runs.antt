@@ -1,6 +1,5 @@
 -- A run from a world that fits stays among worlds that fit, and so meets no fault.
-use Rattle.std.proofs.Common.{◌≡◌, ◌≤◌, ℕ, zero, suc, true, false, Option, Some, None, length, refl, sym, ap, ◌∙◌}
-use Rattle.std.proofs.Common.{subst, arith}
+use Rattle.std.proofs.Common.{◌≡◌, ◌≤◌, ℕ, zero, suc, false, Option, Some, None, length, sym, subst, arith}
 use Rattle.std.specs.Prelude.{option_and_then}
 use Rattle.std.proofs.lemmas.List.{length-map}
 use Rattle.std.proofs.lemmas.Option.{same_Some, none-some}
@@ -9,8 +8,9 @@ use Rattle.code_items.specs.declared.code.Code.{Code}
 use Rattle.code_rules.specs.Places.{instr_at}
 use Rattle.run_steps.specs.World.{World, state_of}
 use Rattle.run_steps.specs.Control.{finishes, effect}
-use Rattle.run_steps.specs.Run.{Next, Finished, step_of, next_world, after}
+use Rattle.run_steps.specs.Run.{step_of, next_world, after}
 use Rattle.run_steps.specs.Safe.{IsSafeHere}
+use Rattle.run_steps.proofs.Runs.{led}
 use Rattle.run_laws.proofs.Known.{known_of}
 use Rattle.fit_laws.specs.Fits.{IsFitting}
 
@@ -20,25 +20,9 @@ pub record Goes (code : Code) : Type 0 where
   pub on : (w : World) → IsFitting code w → finishes w (instr_at code w.place) ≡ false
       → IsFitting code (effect code w (instr_at code w.place))
 
-steps_on : (code : Code) (w : World) → IsSafeHere code w → finishes w (instr_at code w.place) ≡ false
-    → step_of code w ≡ Next (effect code w (instr_at code w.place))
-unfolding step_of
-steps_on code w s e = rw (s.sound, e) refl
-
-steps_out : (code : Code) (w : World) → IsSafeHere code w → finishes w (instr_at code w.place) ≡ true
-    → step_of code w ≡ Finished
-unfolding step_of
-steps_out code w s e = rw (s.sound, e) refl
-
 step_fits : (code : Code) → Goes code → (w v : World) → IsFitting code w → next_world (step_of code w) ≡ Some v
     → IsFitting code v
-step_fits code g w v f e =
-    elim (finishes w (instr_at code w.place)) as (λ b. finishes w (instr_at code w.place) ≡ b → IsFitting code v) [
-      | true ↦ λ ends. absurd (none-some v (sym (ap next_world (steps_out code w (g.safe w f) ends)) ∙ e))
-      | false ↦ λ goes. (let next : Some (effect code w (instr_at code w.place)) ≡ Some v = sym
-          (ap next_world (steps_on code w (g.safe w f) goes)) ∙ e in
-          subst (IsFitting code) (same_Some (effect code w (instr_at code w.place)) v next) (g.on w f goes))
-    ] refl
+step_fits code g w v f e = let l = led code w v e in subst (IsFitting code) (sym l.there) (g.on w f l.on)
 
 then_fits : (code : Code) → Goes code → (x : Option World) (v : World) → ((w : World) → x ≡ Some w → IsFitting code w)
     → option_and_then (λ w. next_world (step_of code w)) x ≡ Some v → IsFitting code v

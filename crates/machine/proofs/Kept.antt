@@ -1,6 +1,5 @@
 -- Each step leaves the tables and indexes of a shape.
 use Rattle.std.proofs.Common.{◌≡◌, ℕ, zero, suc, Bool, true, false, List, [], ◌∷◌, Option, Some, None, refl, sym, subst}
-use Rattle.std.proofs.Common.{if◌then◌else◌}
 use Rattle.std.specs.Prelude.{option_and_then}
 use Rattle.std.proofs.lemmas.Option.{same_Some}
 use Rattle.xvalue.specs.declared.value.Value.{Value}
@@ -25,15 +24,14 @@ use Rattle.code_items.specs.declared.instr.RecordInstr.TheVariants.{Field, RowFi
 use Rattle.code_items.specs.declared.instr.RecordInstr.TheVariants.{Recall, Pack, Zap, Reindex, Index}
 use Rattle.code_rules.specs.Places.{instr_at}
 use Rattle.run_values.specs.Tagged.{TaggedValues}
-use Rattle.run_steps.specs.declared.fault.FaultKind.{FaultKind}
 use Rattle.run_steps.specs.World.{World, EnvState}
 use Rattle.run_steps.specs.Control.{effect, finishes}
 use Rattle.run_steps.specs.Effects.{top, whole_on_top, record_number, move_landing, on_value, on_table, list_numbers}
 use Rattle.run_steps.specs.Effects.{index_in, open_landing, store_opened, store_by_area, moved, store_by_move}
 use Rattle.run_steps.specs.Effects.{shown_here, closing_store, store_by_record, env_after, filter_here}
-use Rattle.run_steps.specs.Faults.{fault_of}
 use Rattle.run_steps.specs.Filters.{shown_by, viewer}
-use Rattle.run_steps.specs.Run.{Next, Finished, judged, step_of, next_world, after}
+use Rattle.run_steps.specs.Run.{step_of, next_world, after}
+use Rattle.run_steps.proofs.Runs.{led}
 use Rattle.run_laws.proofs.Changes.{value_store, screen_store}
 
 -- each change of a store keeps a shape, and each change of a table what it is of
@@ -155,25 +153,12 @@ by_step shape code (Areas i) t e k h = by_area shape code i e k h
 by_step shape code (Moves i) t e k h = by_move shape code i t e k h
 by_step shape code (Records i) t e k h = by_record shape code i t e k h
 
--- where a step leads on, it leads to what its instruction makes of the world
-leads_by : (f : Option FaultKind) (b : Bool) (u v : World)
-    → next_world (judged f (if b then Finished else Next u)) ≡ Some v → v ≡ u
-leads_by None true u v e = absurd (cc)
-leads_by None false u v e = cc
-leads_by (Some kind) b u v e = absurd (cc)
-
-leads : (code : Code) (w v : World) → next_world (step_of code w) ≡ Some v → v ≡ effect code w (instr_at code w.place)
-unfolding step_of
-leads code w v e =
-    leads_by (fault_of code w (instr_at code w.place)) (finishes w (instr_at code w.place))
-    (effect code w (instr_at code w.place)) v e
-
 then_keeps : (shape : Shape) (code : Code) (x : Option World) (v : World) → Keeps shape
     → ((u : World) → x ≡ Some u → StoreHasShape shape u.env.store)
     → option_and_then (λ u. next_world (step_of code u)) x ≡ Some v → StoreHasShape shape v.env.store
 then_keeps shape code None v k before e = absurd (cc)
 then_keeps shape code (Some u) v k before e =
-    subst (λ (x : World). StoreHasShape shape x.env.store) (sym (leads code u v e))
+    subst (λ (x : World). StoreHasShape shape x.env.store) (sym (led code u v e).there)
     (by_step shape code (instr_at code u.place) u.values u.env k (before u refl))
 
 pub kept : (shape : Shape) (code : Code) (w : World) (n : ℕ) (v : World) → Keeps shape → after code w n ≡ Some v

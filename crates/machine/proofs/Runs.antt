@@ -1,7 +1,7 @@
 -- A run of the machine without tags beside that of the checking machine.
 use Rattle.std.proofs.Common.{◌≡◌, ◌∙◌, ◌++◌, ℕ, List, [], ◌∷◌, Bool, true, Option, refl, ap, sym, subst, arith}
 use Rattle.calendar.specs.declared.day.DayParts.{DayParts}
-use Rattle.work_area.specs.Areas.{StoreState, OpenIndexesList}
+use Rattle.work_area.specs.Areas.{StoreState, IsWithinLimit, NoOpenIndexIsStale}
 use Rattle.work_area.specs.Shapes.{StoreHasShape}
 use Rattle.code_items.specs.declared.code.Code.{Code}
 use Rattle.run_values.specs.Standing.{IsByKind}
@@ -84,11 +84,16 @@ safe_from code w m d b view runs twin =
       fits = t.fits;
     }
 
+-- what the stores say of themselves, where a run begins and where it has ended
+pub record TablesAre (from : World) (b : BankState) : Type 0 where
+  pub within : IsWithinLimit from.env.store.limit from.env.store
+  pub fresh : NoOpenIndexIsStale b.env.store
+
 unfoldable pub headline : (code : Code) → RunsWell code
     → (from : World) (budget : ℕ) (outcome : Outcome) (b : BankState)
-    → IsFitting code from → OpenIndexesList b.env.store → IsDecoded code b.values.cells.registers b.decoded
+    → IsFitting code from → TablesAre from b → IsDecoded code b.values.cells.registers b.decoded
     → EndsRun code from budget outcome (IsByKind b.values) b.place b.returns b.env → Headline code from budget outcome b
-headline code runs from budget outcome b fit lists decoded ends =
+headline code runs from budget outcome b fit tables decoded ends =
     let there = runs.fits from fit ends.ran.count ends.last ends.ran.reached in
     let same = agrees b ends.last ends.stands in
     let safe = runs.safe from fit in
@@ -105,7 +110,8 @@ headline code runs from budget outcome b fit lists decoded ends =
       few_steps = runs.made from budget outcome ends.last ends.ran;
       keeps_tables_and_indexes = λ shape h. subst (λ s. StoreHasShape shape s) (sym same.store)
           (runs.keeps shape from ends.ran.count ends.last ends.ran.reached h);
-      lists_keys = lists;
+      within_the_limit = runs.within from from.env.store.limit tables.within;
+      no_open_index_is_stale = tables.fresh;
       as_declared = subst (λ s. StoreFits code.declared s) (sym same.store) there.shape.store;
       goes_on = record { agrees = same; fits = there; decoded = decoded };
     }
@@ -113,10 +119,10 @@ headline code runs from budget outcome b fit lists decoded ends =
 -- ---- pauses
 
 unfoldable pub paused : (code : Code) → RunsWell code → (from : World) (budget steps : ℕ) (b : BankState)
-    → IsFitting code from → OpenIndexesList b.env.store → IsDecoded code b.values.cells.registers b.decoded
+    → IsFitting code from → TablesAre from b → IsDecoded code b.values.cells.registers b.decoded
     → (p : Pauses code from budget steps (IsByKind b.values) b.place b.returns b.env)
     → PausesAt code from budget steps b
-paused code runs from budget steps b fit lists decoded p =
+paused code runs from budget steps b fit tables decoded p =
     let there = runs.fits from fit p.came.count p.last p.came.reached in
     let same = agrees b p.last p.stands in
     let safe = runs.safe from fit in
@@ -133,22 +139,23 @@ paused code runs from budget steps b fit lists decoded p =
           omega (arith, few, p.came.steps_are, p.within));
       keeps_tables_and_indexes = λ shape h. subst (λ s. StoreHasShape shape s) (sym same.store)
           (runs.keeps shape from p.came.count p.last p.came.reached h);
-      lists_keys = lists;
+      within_the_limit = runs.within from from.env.store.limit tables.within;
+      no_open_index_is_stale = tables.fresh;
       as_declared = subst (λ s. StoreFits code.declared s) (sym same.store) there.shape.store;
       goes_on = record { agrees = same; fits = there; decoded = decoded };
     }
 
 pub goes_to : (code : Code) → RunsWell code → (from : World) (budget : ℕ) (marks : List Bool) (leg : Leg)
     (b : BankState)
-    → IsFitting code from → OpenIndexesList b.env.store → IsDecoded code b.values.cells.registers b.decoded
+    → IsFitting code from → TablesAre from b → IsDecoded code b.values.cells.registers b.decoded
     → IsLeg code from budget marks leg (IsByKind b.values) b.place b.returns b.env → GoesTo code from budget marks leg b
 unfolding headline paused
-goes_to code runs from budget marks (Ended outcome) b fit lists decoded g =
-    (headline code runs from budget outcome b fit lists decoded g.0, g.1)
-goes_to code runs from budget marks (Waits steps) b fit lists decoded g =
-    (paused code runs from budget steps b fit lists decoded g.0, g.1)
-goes_to code runs from budget marks (Marked steps) b fit lists decoded g =
-    (paused code runs from budget steps b fit lists decoded g.0, g.1)
+goes_to code runs from budget marks (Ended outcome) b fit tables decoded g =
+    (headline code runs from budget outcome b fit tables decoded g.0, g.1)
+goes_to code runs from budget marks (Waits steps) b fit tables decoded g =
+    (paused code runs from budget steps b fit tables decoded g.0, g.1)
+goes_to code runs from budget marks (Marked steps) b fit tables decoded g =
+    (paused code runs from budget steps b fit tables decoded g.0, g.1)
 
 -- ---- lines
 

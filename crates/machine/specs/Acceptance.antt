@@ -1,6 +1,7 @@
 -- What holds of the runs of an accepted code.
 use Rattle.std.specs.Prelude.{◌≡◌, ◌≤◌, ℕ, Some, length}
 use Rattle.shape.specs.declared.whole.Shape.{Shape}
+use Rattle.work_area.specs.Areas.{IsWithinLimit}
 use Rattle.work_area.specs.Shapes.{StoreHasShape}
 use Rattle.code_items.specs.declared.code.Code.{Code}
 use Rattle.run_steps.specs.declared.ending.Outcome.{Outcome}
@@ -19,6 +20,9 @@ pub record RunsWell (code : Code) : Type 0 where
   -- from any world tables and indexes of any shape keep it
   pub keeps : (shape : Shape) (w : World) (n : ℕ) (v : World) → after code w n ≡ Some v
       → StoreHasShape shape w.env.store → StoreHasShape shape v.env.store
+  -- from any world where no table has more records than its limit, none comes to have more
+  pub within : (w : World) (limit : ℕ) → IsWithinLimit limit w.env.store → (n : ℕ) (v : World) → after code w n ≡ Some v
+      → IsWithinLimit limit v.env.store
   -- from a world where no run meets a fault no step is one, and no run ends so
   pub steps : (w : World) → IsSafe code w → (n : ℕ) (v : World) → after code w n ≡ Some v → IsNoFault (step_of code v)
   pub end : (w : World) (budget : ℕ) (outcome : Outcome) (v : World) → IsSafe code w → Ran code w budget outcome v

@@ -1,7 +1,7 @@
 -- What a run of accepted code without any test is: the checking machine's run, and more.
 use Rattle.std.specs.Prelude.{◌≡◌, ◌≤◌, ℕ, Some, length}
 use Rattle.shape.specs.declared.whole.Shape.{Shape}
-use Rattle.work_area.specs.Areas.{OpenIndexesList}
+use Rattle.work_area.specs.Areas.{IsWithinLimit, NoOpenIndexIsStale}
 use Rattle.work_area.specs.Shapes.{StoreHasShape}
 use Rattle.code_items.specs.declared.code.Code.{Code}
 use Rattle.run_steps.specs.declared.ending.Outcome.{Outcome}
@@ -34,9 +34,12 @@ pub record Headline (code : Code) (from : World) (budget : ℕ) (outcome : Outco
   pub few_steps : steps_made takes_its_steps.count outcome.end ≤ budget
   -- tables keep their fields, and the declared indexes their keys, whatever shape they have
   pub keeps_tables_and_indexes : (shape : Shape) → StoreHasShape shape from.env.store → StoreHasShape shape b.env.store
-  -- every open index lists its table's keys in order, and `Banks::open_keys` lends its list. (This holds after each
-  -- step, since a run with a smaller budget ends there.)
-  pub lists_keys : OpenIndexesList b.env.store
+  -- after each step the limit of records is what it was, and no table has more
+  pub within_the_limit : (n : ℕ) (v : World) → after code from n ≡ Some v
+      → IsWithinLimit from.env.store.limit v.env.store
+  -- and `Banks::open_keys` lends the list of an open index: its table's keys in order. (This holds after each step,
+  -- since a run with a smaller budget ends there.)
+  pub no_open_index_is_stale : NoOpenIndexIsStale b.env.store
   -- tables and areas are still as the code declares, and a run may go on from here
   pub as_declared : StoreFits code.declared b.env.store
   pub goes_on : Twin code world b

@@ -1,7 +1,7 @@
 -- How far a run of accepted code goes on until a line of the operator is wanted.
 use Rattle.std.specs.Prelude.{◌≡◌, ◌<◌, ◌≤◌, ◌-◌, ℕ, suc, List, Bool, true, Some, length, slice_get}
 use Rattle.shape.specs.declared.whole.Shape.{Shape}
-use Rattle.work_area.specs.Areas.{OpenIndexesList}
+use Rattle.work_area.specs.Areas.{IsWithinLimit, NoOpenIndexIsStale}
 use Rattle.work_area.specs.Shapes.{StoreHasShape}
 use Rattle.code_items.specs.declared.code.Code.{Code}
 use Rattle.run_steps.specs.declared.pausing.Leg.{Leg}
@@ -30,7 +30,9 @@ pub record PausesAt (code : Code) (from : World) (budget steps : ℕ) (b : BankS
   pub within_the_budget : steps ≤ budget
   pub few_steps : takes_its_steps.count ≤ budget
   pub keeps_tables_and_indexes : (shape : Shape) → StoreHasShape shape from.env.store → StoreHasShape shape b.env.store
-  pub lists_keys : OpenIndexesList b.env.store
+  pub within_the_limit : (n : ℕ) (v : World) → after code from n ≡ Some v
+      → IsWithinLimit from.env.store.limit v.env.store
+  pub no_open_index_is_stale : NoOpenIndexIsStale b.env.store
   pub as_declared : StoreFits code.declared b.env.store
   pub goes_on : Twin code world b
 

@@ -14,7 +14,9 @@ use fit_laws::laws::{
     fitting_worlds_are_safe, fitting_worlds_keep_the_bounds, openings_fit, runs_keep_fitting,
 };
 use key_lists::KeyList;
-use run_laws::laws::{runs_cost_their_steps, runs_make_few_steps, safe_runs_meet_no_fault};
+use run_laws::laws::{
+    runs_cost_their_steps, runs_keep_the_limit, runs_make_few_steps, safe_runs_meet_no_fault,
+};
 use run_steps::{Leg, Outcome, run as run_untested, run_to_line};
 use std::alloc::Global;
 use work_area::laws::{stores_keep_their_shape, tables_keep_their_kind};
@@ -29,6 +31,7 @@ fn accepted_codes_run_well(verified: &Verified)
     fitting_worlds_keep_the_bounds();
     stores_keep_their_shape();
     tables_keep_their_kind();
+    runs_keep_the_limit();
     runs_cost_their_steps();
     runs_make_few_steps();
     safe_runs_meet_no_fault();
@@ -51,8 +54,9 @@ pub fn resume<K: KeyList>(
 {
     accepted_codes_run_well(verified);
     let code = verified.code();
+    banks.machine.store().tables_are_within_the_limit();
     let outcome = run_untested(alloc, code, &banks.decoded, &mut banks.machine, budget);
-    banks.machine.store().open_indexes_list_keys();
+    banks.machine.store().no_open_index_is_stale();
     outcome
 }
 
@@ -91,6 +95,7 @@ pub fn resume_to_line<K: KeyList>(
         → GoesTo verified.now w budget marks.now result banks.new }
 {
     accepted_codes_run_well(verified);
+    banks.machine.store().tables_are_within_the_limit();
     let leg = run_to_line(
         alloc,
         verified.code(),
@@ -99,7 +104,7 @@ pub fn resume_to_line<K: KeyList>(
         &mut banks.machine,
         budget,
     );
-    banks.machine.store().open_indexes_list_keys();
+    banks.machine.store().no_open_index_is_stale();
     leg
 }
 

@@ -1,9 +1,9 @@
 -- Open indexes stay open.
 use Rattle.std.proofs.Common.{◌≡◌, ℕ, ◌<◌, ◌≤◌, Bool, true, false, not, ◌||◌, ◌&&◌, ◌==◌, Option, Some, List, [], ◌∷◌}
-use Rattle.std.proofs.Common.{length, get_or, map, cond, refl, sym, ap, ◌∙◌, subst, Result, Ok, Err, is_ok, is_some}
+use Rattle.std.proofs.Common.{length, get_or, map, cond, refl, sym, ap, ◌∙◌, subst, Result, Ok, Err, is_ok, is_some, arith}
 use Rattle.std.specs.Prelude.{OnOk, OnErr}
-use Rattle.open_table.specs.Tables.{IndexedState, open_list}
-use Rattle.row_keys.specs.Lists.{index_list}
+use Rattle.dbf_file.specs.Rows.{Row, unmarked}
+use Rattle.open_table.specs.Tables.{IndexedState}
 use Rattle.row_moves.specs.declared.landed.Landed.{Landed}
 use Rattle.row_moves.specs.Moves.{Landing}
 use Rattle.open_table.specs.declared.refused.Refused.{Refused}
@@ -13,7 +13,7 @@ use Rattle.std.proofs.lemmas.Bool.{eqb-true, eq-eqb, and_right}
 use Rattle.std.proofs.lemmas.List.Folds.{list_any_at}
 use Rattle.open_table.specs.Marks.{IndexMark, is_among, mark_at, is_fresh, with_stale, parts_in}
 use Rattle.open_table.specs.Marks.{left_stale, only_fresh, made_fresh}
-use Rattle.std.proofs.lemmas.List.Elements.{All-weaker}
+use Rattle.std.proofs.lemmas.List.Sums.{length-filter, count_by-le-length}
 
 abbrev pub used : List ℕ → ℕ → Option ℕ → Bool → Bool → IndexedState → OpenState
 used list order pointer bof found table =
@@ -93,6 +93,18 @@ ended_by (Ok x) (Err r) old v changed new landing budget e f s h = cc
 ended_by (Err x) (Ok cost) old v changed new landing budget e f s h = cc
 ended_by (Err x) (Err r) old v changed new landing budget e f s h = (h.0, h.1 ∙ f)
 
+-- no more rows than there were, refused or not
+pub no_more : {T E : Type 0} (r : Result T E) (old new made : IndexedState) → OnOk r (new ≡ made) → OnErr r (new ≡ old)
+    → length made.rows ≤ length old.rows → length new.rows ≤ length old.rows
+no_more r old new made ok err le =
+    let few : IndexedState → Type 0 = λ t. length t.rows ≤ length old.rows in
+    either r (new ≡ made) (new ≡ old) (few new) ok err (λ e. subst few (sym e) le)
+    (λ e. subst few (sym e) (let le : length old.rows ≤ length old.rows = omega arith in le))
+
+pub fewer_unmarked : (rows : List Row) → length (unmarked rows) ≤ length rows
+fewer_unmarked rows = let unmarked_is = length-filter (λ (row : Row). not row.marked) rows in
+    let le = count_by-le-length (λ (row : Row). not row.marked) rows in omega (arith, unmarked_is, le)
+
 pub on_ok : {T E : Type 0} (r : Result T E) (P Q : Type 0) → (P → Q) → OnOk r P → OnOk r Q
 on_ok (Ok x) P Q f p = f p
 on_ok (Err e) P Q f p = tt
@@ -124,14 +136,3 @@ open_made t u list order few within declared e = record {
       ∙ and_right m.stale false refl) (declared k d lt));
   order_within = within;
 }
-
--- ---- what open indexes list
-
-listed_fresh : (t : IndexedState) (n : ℕ) → is_fresh (mark_at t.marks n) ≡ true
-    → open_list t n ≡ Some (index_list (parts_in (mark_at t.marks n)) t.rows)
-listed_fresh t n e = rw e refl
-
-pub list_keys : (t : IndexedState) (ns : List ℕ) → All (λ n. is_fresh (mark_at t.marks n) ≡ true) ns
-    → All (λ n. open_list t n ≡ Some (index_list (parts_in (mark_at t.marks n)) t.rows)) ns
-list_keys t ns fresh = All-weaker (λ n. is_fresh (mark_at t.marks n) ≡ true)
-    (λ n. open_list t n ≡ Some (index_list (parts_in (mark_at t.marks n)) t.rows)) (listed_fresh t) ns fresh

@@ -1,6 +1,6 @@
 -- A table with its declared indexes: orders, and what the changes make of it.
 use Rattle.std.specs.Prelude.{◌≡◌, ℕ, ◌-◌, ◌≤◌, ◌↔◌, Bool, true, false, Option, Some, None, List, [], ◌∷◌, ◌++◌, length}
-use Rattle.std.specs.Prelude.{All, slice_index, map, ⊤, option_map, if◌then◌else◌}
+use Rattle.std.specs.Prelude.{All, slice_index, map, ⊤, option_map}
 use Rattle.dbf_file.specs.Rows.{Row, row_at, with_text, with_mark, blank_row, unmarked}
 use Rattle.dbf_file.specs.Tables.{StructureState, TableState, row_widths, decimals_at}
 use Rattle.dbf_file.specs.Values.{text_by}
@@ -57,10 +57,6 @@ order_key (Some k) t n = key_of (parts_in (mark_at t.marks k)) (row_at t.rows (n
 -- the pair of the record that is pointed to, none at the end of file
 abbrev pub pair_at : Option ℕ → IndexedState → Option ℕ → Option Pair
 pair_at order t pointer = option_map (λ n. (order_key order t n, n)) pointer
-
--- what an index lists: the pairs of the rows in order; of a stale one nothing is known
-abbrev pub open_list : IndexedState → ℕ → Option (List Pair)
-open_list t n = if is_fresh (mark_at t.marks n) then Some (index_list (parts_in (mark_at t.marks n)) t.rows) else None
 
 -- ---- changes
 

@@ -13,7 +13,7 @@ ghost use Rattle.row_keys.specs.Lists.{index_list};
 ghost use Rattle.shape.specs.Keys.{IsKey, key_length};
 ghost use Rattle.row_moves.specs.Moves.{Landing, IsMove, end_of, landing_of, sought};
 ghost use Rattle.open_table.specs.Tables.{HasDeclared, IsOrder, order_pairs, pairs_in_order, pair_at, packed, emptied};
-ghost use Rattle.open_table.specs.Tables.{remade, open_list};
+ghost use Rattle.open_table.specs.Tables.{remade};
 ghost use Rattle.open_table.specs.Marks.{mark_at, is_fresh, count_stale, form_in, parts_in};
 ghost use Rattle.open_table.specs.Passes.{at_higher_cost, EndsWithMove};
 ghost use Rattle.dbf_file.specs.Rows.{unmarked};
@@ -183,10 +183,9 @@ impl<K: KeyList> OpenTable<K> {
         }
     }
 
-    /// Each open index lists the keys of the table's rows in order: none is stale.
-    pub fn open_indexes_list_keys(&self)
-        ensures { All (λ n. open_list self.now.table n
-            ≡ Some (index_list (parts_in (mark_at self.now.table.marks n)) self.now.table.rows)) self.now.list }
+    /// No open index is marked stale.
+    pub fn no_open_index_is_stale(&self)
+        ensures { All (λ n. is_fresh (mark_at self.now.table.marks n) ≡ true) self.now.list }
     {
         let _order = self.order;
     }
@@ -230,8 +229,9 @@ impl<K: KeyList> OpenTable<K> {
 
     /// Goes where a move led, and tells its cost; a move that cost too much changes nothing.
     fn settle(&mut self, moved: Result<Landed, Spent>) -> Result<u64, Spent>
-        ensures { (landing : Landing) (budget : ℕ) → IsMove landing budget moved
+        ensures moves { (landing : Landing) (budget : ℕ) → IsMove landing budget moved
             → IsMoved (landed_at self.old) self.old self.new landing budget result }
+        ensures table { self.new.table ≡ self.old.table }
     {
         match moved {
             Ok(landed) => Ok(self.land(landed)),
@@ -247,11 +247,12 @@ impl<K: KeyList> OpenTable<K> {
         budget: u64,
     ) -> Result<u64, Spent>
         requires { MayAskRows F.pre see self.old.table.structure }
-        ensures { (shown : ℕ → Bool)
+        ensures moves { (shown : ℕ → Bool)
             → ShowsRows (FnReturnsAt F.Fn) see self.old.table.structure self.old.table.rows shown
             → IsMoved (landed_at self.old) self.old self.new (landing_of shown asked
             (pair_at (order_index self.old.order self.old.list) self.old.table self.old.pointer)
             (order_pairs (order_index self.old.order self.old.list) self.old.table)) budget result }
+        ensures few { length self.new.table.rows ≤ length self.old.table.rows }
     {
         let order = self.order_index();
         let moved = trying::make_move(
@@ -277,10 +278,11 @@ impl<K: KeyList> OpenTable<K> {
     ) -> Result<u64, Spent>
         requires callable { MayAskRows F.pre see self.old.table.structure }
         requires order { 1 ≤ self.old.order }
-        ensures { (shown : ℕ → Bool)
+        ensures moves { (shown : ℕ → Bool)
             → ShowsRows (FnReturnsAt F.Fn) see self.old.table.structure self.old.table.rows shown
             → IsMoved (landed_at self.old) self.old self.new (sought shown exact text.now
             (order_pairs (order_index self.old.order self.old.list) self.old.table)) budget result }
+        ensures few { length self.new.table.rows ≤ length self.old.table.rows }
     {
         let number = self.key_index();
         let moved = trying::seek(
@@ -462,6 +464,7 @@ impl<K: KeyList> OpenTable<K> {
         ensures ends { (landing : Landing) (budget : ℕ) → EndsWithMove landing budget ended
             → IsEnded (landed_at self.old) self.old self.new landing budget result }
         ensures same { is_ok result ≡ is_ok ended }
+        ensures table { self.new.table ≡ self.old.table }
     {
         match ended {
             Ok(landed) => Ok(self.land(landed)),
@@ -478,12 +481,13 @@ impl<K: KeyList> OpenTable<K> {
         budget: u64,
     ) -> Result<u64, Refused>
         requires { MayAskRows F.pre see self.old.table.structure }
-        ensures { (shown : ℕ → Bool)
+        ensures ends { (shown : ℕ → Bool)
             → ShowsRows (FnReturnsAt F.Fn) see self.old.table.structure (unmarked self.old.table.rows) shown
             → IsEnded (landed_at (in_table self.old (packed self.old.list self.old.table))) self.old self.new
             (at_higher_cost (length self.old.table.rows + length (unmarked self.old.table.rows) * length self.old.list)
             (end_of shown true (pairs_in_order (order_index self.old.order self.old.list) self.old.table.marks
             (unmarked self.old.table.rows)))) budget result }
+        ensures few { length self.new.table.rows ≤ length self.old.table.rows }
     {
         let order = self.order_index();
         let ended = closing::pack(
@@ -500,9 +504,10 @@ impl<K: KeyList> OpenTable<K> {
 
     /// ZAP: removes every row; TOP then comes to the end of file. Where it is refused nothing changes.
     pub fn zap(&mut self, alloc: Global, budget: u64) -> Result<u64, Refused>
-        ensures { (shown : ℕ → Bool)
+        ensures ends { (shown : ℕ → Bool)
             → IsEnded (landed_at (in_table self.old (emptied self.old.list self.old.table))) self.old self.new
             (end_of shown true []) budget result }
+        ensures few { length self.new.table.rows ≤ length self.old.table.rows }
     {
         if budget == 0 {
             return Err(Refused::Spent);
@@ -531,11 +536,12 @@ impl<K: KeyList> OpenTable<K> {
         budget: u64,
     ) -> Result<u64, Refused>
         requires { MayAskRows F.pre see self.old.table.structure }
-        ensures { (shown : ℕ → Bool)
+        ensures ends { (shown : ℕ → Bool)
             → ShowsRows (FnReturnsAt F.Fn) see self.old.table.structure self.old.table.rows shown
             → IsEnded (landed_at (in_table self.old (remade self.old.list self.old.table))) self.old self.new
             (at_higher_cost (length self.old.table.rows * length self.old.list)
             (end_of shown true (order_pairs (order_index self.old.order self.old.list) self.old.table))) budget result }
+        ensures few { length self.new.table.rows ≤ length self.old.table.rows }
     {
         let order = self.order_index();
         let base = u64::from(self.reccount()) * self.list.len() as u64;
@@ -576,11 +582,12 @@ impl<K: KeyList> OpenTable<K> {
         requires callable { MayAskRows F.pre see self.old.table.structure }
         requires few { length list.now ≤ 7 }
         requires declared { All (λ n. is_some (mark_at self.old.table.marks n) ≡ true) list.now }
-        ensures { (shown : ℕ → Bool)
+        ensures ends { (shown : ℕ → Bool)
             → ShowsRows (FnReturnsAt F.Fn) see self.old.table.structure self.old.table.rows shown
             → IsEnded (landed_at (opened list.now self.old)) self.old self.new
             (at_higher_cost (length self.old.table.rows * count_stale list.now self.old.table.marks)
             (end_of shown true (order_pairs (slice_get list.now 0) self.old.table))) budget result }
+        ensures few { length self.new.table.rows ≤ length self.old.table.rows }
     {
         let base = u64::from(self.reccount()) * stale_in(&self.slots, list) as u64;
         self.open_made(alloc, list, true, see, base, budget)
@@ -597,11 +604,12 @@ impl<K: KeyList> OpenTable<K> {
     ) -> Result<u64, Refused>
         requires callable { MayAskRows F.pre see self.old.table.structure }
         requires declared { is_some (mark_at self.old.table.marks number) ≡ true }
-        ensures { (shown : ℕ → Bool)
+        ensures ends { (shown : ℕ → Bool)
             → ShowsRows (FnReturnsAt F.Fn) see self.old.table.structure self.old.table.rows shown
             → IsEnded (landed_at (opened (number ∷ []) self.old)) self.old self.new
             (at_higher_cost (length self.old.table.rows)
             (end_of shown true (order_pairs (Some number) self.old.table))) budget result }
+        ensures few { length self.new.table.rows ≤ length self.old.table.rows }
     {
         let base = u64::from(self.reccount());
         self.open_made(alloc, &[number], false, see, base, budget)
@@ -624,11 +632,12 @@ impl<K: KeyList> OpenTable<K> {
         requires base { base ≤ 1000000000 }
         // Where the list of the order isn't there, the base pays for passes over the rows.
         requires paid { ¬ IsOrder (slice_get list.now 0) self.old.table → length self.old.table.rows ≤ base }
-        ensures { (shown : ℕ → Bool)
+        ensures ends { (shown : ℕ → Bool)
             → ShowsRows (FnReturnsAt F.Fn) see self.old.table.structure self.old.table.rows shown
             → IsEnded (landed_at (opened list.now self.old)) self.old self.new
             (at_higher_cost base (end_of shown true (order_pairs (slice_get list.now 0) self.old.table)))
             budget result }
+        ensures few { length self.new.table.rows ≤ length self.old.table.rows }
     {
         let order = first_index(list);
         match make_and_top(

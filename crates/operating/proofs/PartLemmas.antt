@@ -76,7 +76,7 @@ stops_wider : (code : Code) (w : World) (left more : ℕ) (end : End) → left �
 stops_wider code w left more Finished le same s = (s.0, (let cost = s.1 in omega (arith, cost, le)))
 stops_wider code w left more Spent le same s = subst (λ (n : ℕ). Stops code w n Spent) (same refl) s
 stops_wider code w left more (Full table) le same s = (s.0, (let cost = s.1 in omega (arith, cost, le)), s.2)
-stops_wider code w left more NoMemory le same s = (s.0, (let cost = s.1 in omega (arith, cost, le)), s.2, s.3)
+stops_wider code w left more NoMemory le same s = (s.0, (let cost = s.1 in omega (arith, cost, le)), s.2)
 stops_wider code w left more (Fault kind at) le same s = s
 
 pub ran_wider : (code : Code) (w v : World) (budget more : ℕ) (outcome : Outcome) → budget ≤ more

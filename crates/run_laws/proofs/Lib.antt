@@ -20,3 +20,5 @@ pub mod Parts
 pub mod Safe
 pub mod More
 pub mod Pieces
+pub mod Limits
+pub mod Budgets

@@ -28,7 +28,8 @@ use Rattle.run_steps.specs.Effects.{value_env, record_values, store_by_area, sto
 use Rattle.run_steps.specs.Effects.{cost_of_instr}
 use Rattle.run_steps.specs.Faults.{fault_of}
 use Rattle.run_steps.specs.Pausing.{takes_line, screen_takes_line, is_dry, FindsLines, with_more, Came}
-use Rattle.run_steps.specs.Run.{after, spent, cost_of, cost_in, cost_at, judged, step_of, next_world, Next, Finished}
+use Rattle.run_steps.specs.Run.{after, spent, cost_of, cost_in, cost_at, judged, step_of, next_world, is_full}
+use Rattle.run_steps.specs.Run.{Next, Finished, NoRoom}
 use Rattle.work_area.specs.Areas.{StoreState}
 
 -- ---- lists
@@ -221,20 +222,21 @@ abbrev pub lifted : List (List ℕ) → Option World → Option World
 lifted more None = None
 lifted more (Some w) = Some (with_more more w)
 
-step_lifted : (f : Option FaultKind) (fin : Bool) (x y : World) (more : List (List ℕ)) → y ≡ with_more more x
-    → next_world (judged f (if fin then Finished else Next y))
-    ≡ lifted more (next_world (judged f (if fin then Finished else Next x)))
-step_lifted None true x y more e = refl
-step_lifted None false x y more e = ap (λ w. Some w) e
-step_lifted (Some kind) fin x y more e = refl
+step_lifted : (f : Option FaultKind) (fin full : Bool) (x y : World) (more : List (List ℕ)) → y ≡ with_more more x
+    → next_world (judged f (if fin then Finished else if full then NoRoom else Next y))
+    ≡ lifted more (next_world (judged f (if fin then Finished else if full then NoRoom else Next x)))
+step_lifted None true full x y more e = refl
+step_lifted None false true x y more e = refl
+step_lifted None false false x y more e = ap (λ w. Some w) e
+step_lifted (Some kind) fin full x y more e = refl
 
 step_more : (code : Code) (w : World) (more : List (List ℕ)) → is_dry code w ≡ false
     → next_world (step_of code (with_more more w)) ≡ lifted more (next_world (step_of code w))
 unfolding step_of fault_of
 step_more code w more wet =
     let i = instr_at code w.place in
-    step_lifted (fault_of code w i) (finishes w i) (effect code w i) (effect code (with_more more w) i) more
-    (effect_more code w i more wet)
+    step_lifted (fault_of code w i) (finishes w i) (is_full w.env i) (effect code w i) (effect code (with_more more w) i)
+    more (effect_more code w i more wet)
 
 step_behind : (code : Code) (x : Option World) (more : List (List ℕ))
     → ((v : World) → x ≡ Some v → is_dry code v ≡ false)

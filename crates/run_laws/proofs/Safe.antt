@@ -7,20 +7,21 @@ use Rattle.run_steps.specs.declared.ending.End.TheVariants.{Finished as EndFinis
 use Rattle.run_steps.specs.declared.ending.Outcome.{Outcome}
 use Rattle.run_steps.specs.World.{World}
 use Rattle.run_steps.specs.Control.{effect, finishes}
-use Rattle.run_steps.specs.Run.{Next, Finished, judged, step_of, after, IsNoFault, IsFault, Stops, Ran}
+use Rattle.run_steps.specs.Run.{Next, Finished, NoRoom, is_full, judged, step_of, after, IsNoFault, IsFault, Stops, Ran}
 use Rattle.run_steps.specs.Safe.{IsSafe, IsSafeHere}
 
-no_fault_by : (code : Code) (w : World) (b : Bool)
-    → IsNoFault (if b then Finished else Next (effect code w (instr_at code w.place)))
-no_fault_by code w true = tt
-no_fault_by code w false = tt
+no_fault_by : (w : World) (b full : Bool) → IsNoFault (if b then Finished else if full then NoRoom else Next w)
+no_fault_by w true full = tt
+no_fault_by w false true = tt
+no_fault_by w false false = tt
 
 no_fault : (code : Code) (w : World) → IsSafeHere code w → IsNoFault (step_of code w)
 unfolding step_of
 no_fault code w s =
+    let i = instr_at code w.place in
     subst (λ f. IsNoFault
-    (judged f (if finishes w (instr_at code w.place) then Finished else Next (effect code w (instr_at code w.place)))))
-    (sym s.sound) (no_fault_by code w (finishes w (instr_at code w.place)))
+    (judged f (if finishes w i then Finished else if is_full w.env i then NoRoom else Next (effect code w i))))
+    (sym s.sound) (no_fault_by (effect code w i) (finishes w i) (is_full w.env i))
 
 ends_well : (code : Code) (w : World) (left : ℕ) (end : End) → IsNoFault (step_of code w) → Stops code w left end
     → ¬ IsFault end

@@ -1,6 +1,6 @@
 -- A run stays among worlds of the code's shape.
-use Rattle.std.proofs.Common.{◌≡◌, ◌<◌, ℕ, zero, suc, true, false, Option, Some, None, length, refl, sym, ap}
-use Rattle.std.proofs.Common.{◌∙◌, subst, arith}
+use Rattle.std.proofs.Common.{◌≡◌, ◌<◌, ℕ, zero, suc, true, false, Option, Some, None, length, refl, sym, subst}
+use Rattle.std.proofs.Common.{arith}
 use Rattle.std.specs.Prelude.{option_and_then}
 use Rattle.std.proofs.lemmas.Option.{same_Some, none-some}
 use Rattle.work_area.specs.Areas.{AreApart}
@@ -11,31 +11,16 @@ use Rattle.code_items.specs.declared.instr.FlowInstr.TheVariants.{End}
 use Rattle.code_items.specs.Facts.{Facts}
 use Rattle.code_items.specs.Instrs.{is_instr}
 use Rattle.code_rules.specs.Places.{instr_at}
-use Rattle.run_steps.specs.declared.fault.FaultKind.{FaultKind}
 use Rattle.run_steps.specs.World.{World}
 use Rattle.run_steps.specs.Control.{effect, finishes}
 use Rattle.run_steps.specs.Faults.{fault_of, IsClear}
-use Rattle.run_steps.specs.Run.{Next, Finished, Faulted, step_of, next_world, after}
+use Rattle.run_steps.specs.Run.{step_of, next_world, after}
 use Rattle.run_steps.specs.Shapes.{HasShape}
+use Rattle.run_steps.proofs.Runs.{led}
 use Rattle.run_laws.proofs.Tests.{all_within}
 
 abbrev pub Stays : Code → World → Type 0
 Stays code w = HasShape code w × AreApart w.env.store.areas
-
-faults : (code : Code) (w : World) (kind : FaultKind) → fault_of code w (instr_at code w.place) ≡ Some kind
-    → step_of code w ≡ Faulted kind
-unfolding step_of
-faults code w kind e = rw e refl
-
-ends : (code : Code) (w : World) → fault_of code w (instr_at code w.place) ≡ None
-    → finishes w (instr_at code w.place) ≡ true → step_of code w ≡ Finished
-unfolding step_of
-ends code w none e = rw (none, e) refl
-
-goes : (code : Code) (w : World) → fault_of code w (instr_at code w.place) ≡ None
-    → finishes w (instr_at code w.place) ≡ false → step_of code w ≡ Next (effect code w (instr_at code w.place))
-unfolding step_of
-goes code w none e = rw (none, e) refl
 
 -- what the laws say of a step
 abbrev Clear : Code → Type 0
@@ -49,19 +34,10 @@ step_stays : (code : Code) → Clear code → Keeps code → Facts code → (w v
     → next_world (step_of code w) ≡ Some v → Stays code v
 step_stays code clear keeps f w v s e =
     let i = instr_at code w.place in
-    elim (fault_of code w i) as (λ fault. fault_of code w i ≡ fault → Stays code v) [
-      | Some kind ↦ λ some. absurd (none-some v (sym (ap next_world (faults code w kind some)) ∙ e))
-      | None ↦ λ none.
-          elim (finishes w i) as (λ b. finishes w i ≡ b → Stays code v) [
-            | true ↦ λ at. absurd (none-some v (sym (ap next_world (ends code w none at)) ∙ e))
-            | false ↦ λ on. (let next : Some (effect code w i) ≡ Some v =
-                sym (ap next_world (goes code w none on)) ∙ e in
-                let within : w.place < length code.instructions = omega (arith, s.0.place, f.places) in
-                let is =
-                all_within (is_instr code.declared.version) code.instructions w.place (Flow End) f.legal within in
-                subst (Stays code) (same_Some (effect code w i) v next) (keeps w i s.0 s.1 is (clear w i none) on))
-          ] refl
-    ] refl
+    let l = led code w v e in
+    let within : w.place < length code.instructions = omega (arith, s.0.place, f.places) in
+    let is = all_within (is_instr code.declared.version) code.instructions w.place (Flow End) f.legal within in
+    subst (Stays code) (sym l.there) (keeps w i s.0 s.1 is (clear w i l.sound) l.on)
 
 then_stays : (code : Code) → Clear code → Keeps code → Facts code → (x : Option World) (v : World)
     → ((w : World) → x ≡ Some w → Stays code w) → option_and_then (λ w. next_world (step_of code w)) x ≡ Some v

@@ -19,7 +19,7 @@ ghost use Rattle.run_steps.specs.declared.ending.Outcome.{Outcome as AnyOutcome}
 ghost use Rattle.run_steps.specs.Safe.{IsSafe, IsSafeHere};
 ghost use Rattle.run_steps.specs.Shapes.{HasShape, StoreFits};
 ghost use Rattle.run_steps.specs.World.{World};
-ghost use Rattle.work_area.specs.Areas.{AreApart, StoreState};
+ghost use Rattle.work_area.specs.Areas.{AreApart, IsWithinLimit, StoreState};
 ghost use Rattle.work_area.specs.Shapes.{StoreHasShape};
 ghost use Rattle.calendar.specs.declared.day.DayParts.{DayParts};
 
@@ -75,6 +75,13 @@ pub fn runs_keep_the_shape()
     steps_keep_the_shape();
 }
 
+/// No step gives a table more records than it may have. Where this is the limit of records, and no table has more, so it
+/// is after each step of a run: APPEND to a full table isn't one.
+pub fn runs_keep_the_limit()
+    ensures { (code : AnyCode) (w : World) (limit : ℕ) → IsWithinLimit limit w.env.store → (n : ℕ) (v : World)
+        → after code w n ≡ Some v → IsWithinLimit limit v.env.store }
+{}
+
 /// The world from which a run begins has the code's shape where the store fits what is declared, and no two work areas
 /// hold one table there.
 pub fn openings_have_the_shape()
@@ -113,6 +120,12 @@ pub fn parts_make_the_whole()
     ensures { (code : AnyCode) (w v u : World) (budget more : ℕ) (first second : AnyOutcome)
         → Ran code w budget first v → first.end ≡ Spent → Ran code v more second u
         → Ran code w (first.steps + more) (record { end = second.end; steps = first.steps + second.steps }) u }
+{}
+
+/// A run that ended for want of budget, where steps cost the whole budget, ended in the world to which they lead.
+pub fn spent_budgets_lead_to_one_world()
+    ensures { (code : AnyCode) (w u v : World) (n : ℕ) (outcome : AnyOutcome) → after code w n ≡ Some u
+        → Ran code w (spent code w n) outcome v → outcome.end ≡ Spent → v ≡ u }
 {}
 
 /// Further lines change no step that finds the line that it takes. Where steps lead to a world, and none of them took a

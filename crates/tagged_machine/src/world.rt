@@ -1,6 +1,8 @@
 //! The checking machine's world.
 
 ghost use Rattle.std.specs.Prelude.{◌≡◌, IfOk};
+ghost use Rattle.code_rules.specs.Rules.{Accepted};
+ghost use Rattle.fit_laws.specs.Fits.{IsFitting};
 ghost use Rattle.run_steps.specs.Opening.{opening as opening_of};
 ghost use Rattle.run_steps.specs.Shapes.{HasShape, StoreFits};
 ghost use Rattle.screen_lines.specs.State.{sent};
@@ -9,6 +11,7 @@ ghost use Rattle.work_area.specs.Areas.{AreApart};
 use crate::scratch::TestScratch;
 use calendar::Day;
 use code_items::laws::legal_codes;
+use fit_laws::laws::openings_fit;
 use key_lists::KeyList;
 use legal_code::LegalCode;
 use run_laws::laws::openings_have_the_shape;
@@ -49,8 +52,11 @@ impl<K: KeyList> World<K> {
         ensures world { IfOk result (λ world. world ≡ opening_of code.now store lines today) }
         ensures shape { IfOk result (λ world. HasShape code.now world) }
         ensures apart { IfOk result (λ world. AreApart world.env.store.areas) }
+        // An accepted code meets no fault from it.
+        ensures fits { IfOk result (λ world. Accepted code.now → IsFitting code.now world) }
     {
         openings_have_the_shape();
+        openings_fit();
         legal_codes();
         let values = Tagged::new(alloc, usize::from(code.code().declared.slots))?;
         Ok(World {

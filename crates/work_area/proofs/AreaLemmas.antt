@@ -33,11 +33,11 @@ held_at areas a t u e same =
     list_any_at (holds t) areas a None within (ap (holds t) e ∙ eq-eqb u.table t same)
 
 -- an area that holds a table which no other area holds
-pub held_sound : (tables tables' : List OpenState) (areas : List (Option Use)) (selected limit : ℕ) (held : Use)
-    → length tables' ≡ length tables → held.table < length tables → list_any (holds held.table)
+pub held_sound : (tables : List OpenState) (areas : List (Option Use)) (selected limit : ℕ) (held : Use)
+    → held.table < length tables → list_any (holds held.table)
     (set areas (selected - 1) None) ≡ false → IsStore tables areas selected limit
-    → IsStore tables' (set areas (selected - 1) (Some held)) selected limit
-held_sound tables tables' areas selected limit held count lt elsewhere h =
+    → IsStore tables (set areas (selected - 1) (Some held)) selected limit
+held_sound tables areas selected limit held lt elsewhere h =
     let p = selected - 1 in
     let within : p < length areas = omega (arith, h.ten, h.one, h.last) in
     let other : (a : ℕ) (u : Use) → a ≢ p → get_or areas a None ≡ Some u → u.table ≡ held.table → ⊥ =
@@ -48,10 +48,10 @@ held_sound tables tables' areas selected limit held count lt elsewhere h =
       one = h.one;
       last = h.last;
       few = h.few;
-      declared = λ a u e. elim (at_set areas p a (Some held) u within e) as (λ _. u.table < length tables') [
+      declared = λ a u e. elim (at_set areas p a (Some held) u within e) as (λ _. u.table < length tables) [
         | inl f ↦ (let same : held ≡ u = (let g : Some held ≡ Some u = f.1 in cc) in let e2 = ap (λ (w : Use). w.table)
             same in omega arith)
-        | inr f ↦ omega (arith, h.declared a u f.1)
+        | inr f ↦ h.declared a u f.1
       ];
       apart = λ a b u v e f same. elim (at_set areas p a (Some held) u within e) as (λ _. a ≡ b) [
         | inl k ↦ elim (at_set areas p b (Some held) v within f) as (λ _. a ≡ b) [
@@ -65,6 +65,7 @@ held_sound tables tables' areas selected limit held count lt elsewhere h =
           | inr l ↦ h.apart a b u v k.1 l.1 same
         ]
       ];
+      within = h.within;
     }
 
 -- ---- a table opened in the place of another

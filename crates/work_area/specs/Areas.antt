@@ -1,11 +1,9 @@
 -- The ten work areas over the declared tables. Areas count from 1, tables from 0.
-use Rattle.std.specs.Prelude.{◌≡◌, ℕ, ◌-◌, ◌<◌, ◌≤◌, Bool, false, ◌==◌, Option, Some, None, List, length, map, find}
+use Rattle.std.specs.Prelude.{◌≡◌, ℕ, ◌-◌, ◌<◌, ◌≤◌, Bool, true, false, ◌==◌, Option, Some, None, List, length, map, find}
 use Rattle.std.specs.Prelude.{All, is_some, slice_get, slice_index_or, slice_set, replicate, if◌then◌else◌}
 use Rattle.std.specs.List.{list_any}
 use Rattle.open_table.specs.Open.{OpenState, closed}
-use Rattle.open_table.specs.Marks.{IndexMark, mark_at, parts_in}
-use Rattle.open_table.specs.Tables.{open_list}
-use Rattle.row_keys.specs.Lists.{index_list}
+use Rattle.open_table.specs.Marks.{IndexMark, mark_at, is_fresh}
 use Rattle.work_area.specs.declared.uses.Use.{Use}
 
 -- what callers see: each declared table with its open indexes, order and pointer, in use or not; what each of the ten
@@ -109,6 +107,10 @@ abbrev pub AreApart : List (Option Use) → Type 0
 AreApart areas = (a b : ℕ) (u v : Use) → slice_index_or areas a None ≡ Some u → slice_index_or areas b None ≡ Some v
     → u.table ≡ v.table → a ≡ b
 
+-- no table has more records than this
+abbrev pub AreWithin : ℕ → List OpenState → Type 0
+AreWithin limit tables = All (λ o. length o.table.rows ≤ limit) tables
+
 pub record IsStore (tables : List OpenState) (areas : List (Option Use)) (selected limit : ℕ) : Type 0 where
   pub ten : length areas ≡ 10
   pub one : 1 ≤ selected
@@ -117,8 +119,15 @@ pub record IsStore (tables : List OpenState) (areas : List (Option Use)) (select
   -- an area holds a declared table
   pub declared : (a : ℕ) (u : Use) → slice_index_or areas a None ≡ Some u → u.table < length tables
   pub apart : AreApart areas
+  -- APPEND to a table with as many records as the limit is refused
+  pub within : AreWithin limit tables
 
--- every open index of every table lists the table's keys in order
-abbrev pub OpenIndexesList : StoreState → Type 0
-OpenIndexesList s = (t : ℕ) (o : OpenState) → table_at s t ≡ Some o
-    → All (λ n. open_list o.table n ≡ Some (index_list (parts_in (mark_at o.table.marks n)) o.table.rows)) o.list
+-- this is the most records that a table may have, and none has more
+pub record IsWithinLimit (limit : ℕ) (s : StoreState) : Type 0 where
+  pub limit_is : s.limit ≡ limit
+  pub within : AreWithin limit s.tables
+
+-- no open index of any table is marked stale
+abbrev pub NoOpenIndexIsStale : StoreState → Type 0
+NoOpenIndexIsStale s = (t : ℕ) (o : OpenState) → table_at s t ≡ Some o
+    → All (λ n. is_fresh (mark_at o.table.marks n) ≡ true) o.list

@@ -14,7 +14,8 @@ ghost use Rattle.open_table.specs.Marks.{mark_at, is_fresh, parts_in, form_in};
 ghost use Rattle.open_table.specs.Tried.{MayAskRows, ShowsRows};
 ghost use Rattle.work_area.specs.Areas.{use_at, selected_use, table_at, area_table, here, with_use, with_selected};
 ghost use Rattle.work_area.specs.Areas.{with_here, change_here, closed_here, closed_all, is_elsewhere, holds};
-ghost use Rattle.work_area.specs.Areas.{index_table, mark_in, closed_other, OpenIndexesList};
+ghost use Rattle.work_area.specs.Areas.{index_table, mark_in, closed_other, IsWithinLimit};
+ghost use Rattle.work_area.specs.Areas.{NoOpenIndexIsStale};
 ghost use Rattle.work_area.specs.Calls.{MovesHere, EndsHere, put_landed, top_of, bottom_of, skip_of, seek_of};
 ghost use Rattle.work_area.specs.Calls.{packed_rows, all_rows, packed_in, pack_of, zapped_in, reindexed_in, reindex_of};
 ghost use Rattle.work_area.specs.Calls.{index_on_of, open_of, indexed_here, used_here, with_filter, with_list};
@@ -74,7 +75,7 @@ fn holds_table(held: &Option<Use>, table: u16) -> bool
 impl<K: KeyList> Store<K> {
     /// The tables of a shape, all areas closed, area 1 selected. `keys` has for each index of the shape, in their
     /// order, a list of its key, or none; an index is stale unless its list has just the pairs of its table's rows.
-    /// Each table has at most as many records as the smaller of `limit` and 1,000,000, and may have no more later.
+    /// Each table has at most as many records as the smaller of `limit` and 1,000,000, and no change gives it more.
     /// Where memory is missing, what was handed in is given up.
     pub fn new(
         alloc: Global,
@@ -613,13 +614,20 @@ impl<K: KeyList> Store<K> {
         }
     }
 
-    /// Every open index of every table lists the table's keys in order: none is stale. `open_keys` lends such a list.
-    pub fn open_indexes_list_keys(&self)
-        ensures { OpenIndexesList self.now }
+    /// No open index of any table is marked stale. `open_keys` lends the list of such an index.
+    pub fn no_open_index_is_stale(&self)
+        ensures { NoOpenIndexIsStale self.now }
     {
         for t in 0..self.tables.len() {
-            self.tables[t].open_indexes_list_keys();
+            self.tables[t].no_open_index_is_stale();
         }
+    }
+
+    /// No table has more records than the limit.
+    pub fn tables_are_within_the_limit(&self)
+        ensures { IsWithinLimit self.now.limit self.now }
+    {
+        let _limit = self.limit;
     }
 
     /// The list of a declared index by its number, counted from 0; none where it is stale, or there is no such index.

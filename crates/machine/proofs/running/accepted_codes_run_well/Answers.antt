@@ -15,6 +15,7 @@ returns c =
         stores = c.stores_keep_their_shape.ensures shape;
         tables = c.tables_keep_their_kind.ensures;
       });
+      within = c.runs_keep_the_limit.ensures code;
       steps = c.safe_runs_meet_no_fault.ensures.steps code;
       end = c.safe_runs_meet_no_fault.ensures.end code;
       few = c.runs_cost_their_steps.ensures code;

@@ -1,11 +1,12 @@
-use Rattle.std.proofs.Common.{sym, subst}
+use Rattle.std.proofs.Common.{sym, ap, subst, ◌∙◌}
 use Rattle.run_steps.specs.Machines.{EndsMachine}
 use Rattle.run_steps.specs.Safe.{IsSafe}
 use Rattle.run_steps.specs.Tables.{IsDecoded}
+use Rattle.run_steps.specs.World.{EnvState}
 use Rattle.run_values.specs.Standing.{IsByKind}
-use Rattle.work_area.specs.Areas.{OpenIndexesList}
+use Rattle.work_area.specs.Areas.{StoreState, IsWithinLimit, NoOpenIndexIsStale}
 use Rattle.machine.specs.Twins.{banks_of}
-use Rattle.machine.proofs.Runs.{safe_from, headline}
+use Rattle.machine.proofs.Runs.{TablesAre, safe_from, headline}
 use Rattle.machine.proofs.running.resume.Goals as goal
 
 pub run-outcome-requires-clause-safe : goal.run-outcome-requires-clause-safe
@@ -33,8 +34,13 @@ returns g c = λ w twin.
     let b = c.banks.inside in
     let s = safe_from c.args.verified.now w b.machine b.decoded _ c.banks.view_is runs twin in
     let safe = subst (λ k. IsSafe k w) (sym same) s.safe in
+    let tables : TablesAre w (banks_of n.machine b.decoded) = record {
+      within = subst (λ (z : StoreState). IsWithinLimit z.limit z)
+          (c.store.ensures ∙ ap (λ (e : EnvState). e.store) s.stands.env_is) c.tables_are_within_the_limit.ensures;
+      fresh = subst NoOpenIndexIsStale c.store-2.ensures c.no_open_index_is_stale.ensures;
+    } in
     headline c.args.verified.now runs w c.args.budget c.run-outcome.result (banks_of n.machine b.decoded) s.fits
-    (subst OpenIndexesList c.store.ensures c.open_indexes_list_keys.ensures)
+    tables
     (subst (λ k. IsDecoded k n.machine.values.cells.registers b.decoded) same c.run-outcome.ensures.decoded)
     (subst (λ k. EndsMachine k w c.args.budget c.run-outcome.result IsByKind n.machine) same
     (c.run-outcome.ensures.ends w s.stands safe))

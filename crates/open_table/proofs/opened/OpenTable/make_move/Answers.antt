@@ -1,4 +1,4 @@
-use Rattle.std.proofs.Common.{◌≡◌, ℕ, Option, ap, ◌∙◌, subst}
+use Rattle.std.proofs.Common.{◌≡◌, ℕ, Option, ap, ◌∙◌, subst, length, arith}
 use Rattle.std.specs.Fn.{FnReturnsAt}
 use Rattle.row_moves.specs.Moves.{IsMove, Landing, landing_of}
 use Rattle.open_table.specs.Tables.{IndexedState, indexed, order_pairs, pair_at}
@@ -7,8 +7,8 @@ use Rattle.open_table.specs.Open.{OpenState, IsMoved, landed, order_index}
 use Rattle.open_table.proofs.OpenLemmas.{used}
 use Rattle.open_table.proofs.opened.OpenTable.make_move.Goals as goal
 
-pub returns : goal.returns
-returns g c = λ shown sees.
+pub returns-clause-moves : goal.returns-clause-moves
+returns-clause-moves g c = λ shown sees.
     let now : OpenState = c.args.self.now in
     let inside = c.self.inside in
     let old : IndexedState = indexed inside.table inside.slots.items in
@@ -28,4 +28,9 @@ returns g c = λ shown sees.
     c.order_index-order.ensures.value (said sees) in
     subst (λ (v : OpenState). IsMoved (landed v) v c.settle.new.self
     (led (order_index now.order now.list) now.table now.pointer) c.args.budget c.settle.result) same
-    (c.settle.ensures _ c.args.budget moved)
+    (c.settle.ensures.moves _ c.args.budget moved)
+
+pub returns-clause-few : goal.returns-clause-few
+returns-clause-few g c =
+    let same = c.settle.ensures.table ∙ c.make_move-moved.ensures.same ∙ ap (λ (s : OpenState). s.table) c.self.view_is in
+    let rows = ap (λ (t : IndexedState). length t.rows) same in omega (arith, rows)

@@ -17,8 +17,8 @@ open_made-requires-clause-paid g c = λ stale.
     ∙ ap (λ (s : OpenState). count_stale c.args.list.now s.table.marks) c.self.view_is) in
     pays_for c.args.list.now t (c.from.result * c.stale_in.result) base stale
 
-pub returns : goal.returns
-returns g c = λ shown sees.
+pub returns-clause-ends : goal.returns-clause-ends
+returns-clause-ends g c = λ shown sees.
     let now : OpenState = c.args.self.now in
     let list = c.args.list.now in
     let base : c.from.result * c.stale_in.result ≡ length now.table.rows * count_stale list now.table.marks =

@@ -1,4 +1,4 @@
-use Rattle.std.proofs.Common.{◌≡◌, ℕ, true, Option, is_some, sym, ap, ◌∙◌, subst, arith}
+use Rattle.std.proofs.Common.{◌≡◌, ℕ, true, Option, is_some, length, sym, ap, ◌∙◌, subst, arith}
 use Rattle.std.specs.List.{All}
 use Rattle.std.specs.Fn.{FnReturnsAt}
 use Rattle.std.specs.Prelude.{slice_get}
@@ -27,8 +27,8 @@ invariant_of-self g c =
       is_open = subst (λ xs. IsOpen new xs order) (sym c.held-self-inside.ensures) made;
     }
 
-pub returns-in-Ok : goal.returns-in-Ok
-returns-in-Ok g c = λ shown sees.
+pub returns-in-Ok-clause-ends : goal.returns-in-Ok-clause-ends
+returns-in-Ok-clause-ends g c = λ shown sees.
     let now : OpenState = c.args.self.now in
     let list = c.args.list.now in
     let old : IndexedState = indexed c.self.inside.table c.self.inside.slots.items in
@@ -52,8 +52,8 @@ returns-in-Ok g c = λ shown sees.
     }) in
     (c.land.ensures.cost ∙ lands.cost, omega (arith, c.land.ensures.cost, lands.within), there)
 
-pub returns : goal.returns
-returns g c = λ shown sees.
+pub returns-clause-ends : goal.returns-clause-ends
+returns-clause-ends g c = λ shown sees.
     let now : OpenState = c.args.self.now in
     let inside = c.self.inside in
     let table : indexed inside.table inside.slots.items ≡ now.table = ap (λ (s : OpenState). s.table) c.self.view_is in
@@ -66,3 +66,12 @@ returns g c = λ shown sees.
     (order_pairs o now.table))) c.args.budget c.in-Err.refused)
     c.first_index-order.ensures said in
     (refused, ap (λ xs. with_it (indexed inside.table xs)) c.in-Err.ensures.err ∙ c.self.view_is)
+
+pub returns-in-Ok-clause-few : goal.returns-in-Ok-clause-few
+returns-in-Ok-clause-few g c =
+    let was = ap (λ (s : OpenState). length s.table.rows) c.self.view_is in
+    let is = ap (λ (s : OpenState). length s.table.rows) c.land.ensures.there in omega (arith, was, is)
+
+pub returns-clause-few : goal.returns-clause-few
+returns-clause-few g c =
+    let was = ap (λ (s : OpenState). length s.table.rows) c.self.view_is in omega (arith, was)

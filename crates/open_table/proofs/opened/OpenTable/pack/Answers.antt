@@ -6,7 +6,7 @@ use Rattle.open_table.specs.Passes.{at_higher_cost, EndsWithMove}
 use Rattle.open_table.specs.Tables.{IndexedState, indexed, packed, pairs_in_order}
 use Rattle.open_table.specs.Tried.{ShowsRows}
 use Rattle.open_table.specs.Open.{OpenState, IsOpen, in_table, order_index}
-use Rattle.open_table.proofs.OpenLemmas.{open_packed, either, ended_by, on_ok, on_err, used}
+use Rattle.open_table.proofs.OpenLemmas.{open_packed, either, ended_by, on_ok, on_err, used, no_more, fewer_unmarked}
 use Rattle.open_table.proofs.opened.OpenTable.pack.Goals as goal
 
 pub invariant_of-self : goal.invariant_of-self
@@ -55,3 +55,13 @@ returns g c = λ shown sees.
     let led : Landing = landing now.list (order_index now.order now.list) now.table in
     ended_by c.pack-ended.result c.finish.result now (with_it new) (changed now) c.finish.new.self led c.args.budget ok
     err c.finish.ensures.same (c.finish.ensures.ends led c.args.budget ordered)
+
+pub returns-clause-few : goal.returns-clause-few
+returns-clause-few g c =
+    let inside = c.self.inside in
+    let old : IndexedState = indexed inside.table inside.slots.items in
+    let new : IndexedState = indexed c.pack-ended.new.table c.pack-ended.new.slots.items in
+    let le = no_more c.pack-ended.result old new (packed c.as_slice.result.now old) c.pack-ended.ensures.ok
+    c.pack-ended.ensures.err (fewer_unmarked old.rows) in
+    let was = ap (λ (s : OpenState). length s.table.rows) c.self.view_is in
+    let is = ap (λ (t : IndexedState). length t.rows) c.finish.ensures.table in omega (arith, le, was, is)

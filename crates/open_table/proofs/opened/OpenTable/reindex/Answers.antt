@@ -1,4 +1,4 @@
-use Rattle.std.proofs.Common.{◌≡◌, ℕ, ◌*◌, true, Option, length, sym, ap, ◌∙◌, subst}
+use Rattle.std.proofs.Common.{◌≡◌, ℕ, ◌*◌, true, Option, length, sym, ap, ◌∙◌, subst, arith}
 use Rattle.std.specs.Fn.{FnReturnsAt}
 use Rattle.row_moves.specs.Moves.{Landing, end_of}
 use Rattle.open_table.specs.Passes.{at_higher_cost, EndsWithMove}
@@ -61,3 +61,8 @@ returns g c = λ shown sees.
     landing (length now.table.rows * length now.list) (order_index now.order now.list) now.table in
     ended_by ended.result c.finish.result now (with_it new) (changed now) c.finish.new.self led c.args.budget ok err
     c.finish.ensures.same (c.finish.ensures.ends led c.args.budget ordered)
+
+pub returns-clause-few : goal.returns-clause-few
+returns-clause-few g c =
+    let was = ap (λ (s : OpenState). length s.table.rows) c.self.view_is in
+    let is = ap (λ (t : IndexedState). length t.rows) c.finish.ensures.table in omega (arith, was, is)

@@ -1,4 +1,4 @@
-use Rattle.std.proofs.Common.{◌≡◌, ℕ, Option, Some, ap, ◌∙◌, subst}
+use Rattle.std.proofs.Common.{◌≡◌, ℕ, Option, Some, ap, ◌∙◌, subst, length, arith}
 use Rattle.std.specs.Fn.{FnReturnsAt}
 use Rattle.row_moves.specs.Moves.{IsMove, sought}
 use Rattle.open_table.specs.Tables.{IndexedState, indexed, order_pairs}
@@ -7,8 +7,8 @@ use Rattle.open_table.specs.Open.{OpenState, IsMoved, landed, order_index}
 use Rattle.open_table.proofs.OpenLemmas.{used}
 use Rattle.open_table.proofs.opened.OpenTable.seek.Goals as goal
 
-pub returns : goal.returns
-returns g c = λ shown sees.
+pub returns-clause-moves : goal.returns-clause-moves
+returns-clause-moves g c = λ shown sees.
     let now : OpenState = c.args.self.now in
     let inside = c.self.inside in
     let old : IndexedState = indexed inside.table inside.slots.items in
@@ -25,4 +25,9 @@ returns g c = λ shown sees.
     subst (λ (v : OpenState). IsMoved (landed v) v c.settle.new.self
     (sought shown c.args.exact c.args.text.now (order_pairs (order_index now.order now.list) now.table))
     c.args.budget c.settle.result) same
-    (c.settle.ensures _ c.args.budget moved)
+    (c.settle.ensures.moves _ c.args.budget moved)
+
+pub returns-clause-few : goal.returns-clause-few
+returns-clause-few g c =
+    let same = c.settle.ensures.table ∙ c.seek-moved.ensures.same ∙ ap (λ (s : OpenState). s.table) c.self.view_is in
+    let rows = ap (λ (t : IndexedState). length t.rows) same in omega (arith, rows)

@@ -1,5 +1,6 @@
-use Rattle.std.proofs.Common.{ap}
+use Rattle.std.proofs.Common.{length, ap, arith}
 use Rattle.open_table.specs.Tables.{IndexedState, indexed, emptied}
+use Rattle.open_table.specs.Open.{OpenState}
 use Rattle.open_table.proofs.OpenLemmas.{open_packed}
 use Rattle.open_table.proofs.opened.OpenTable.zap.Goals as goal
 
@@ -13,3 +14,8 @@ invariant_of-self g c =
           c.as_slice.ensures.value c.self.invariant.is_open
           (ap (λ (t : IndexedState). t.marks) {y = emptied c.as_slice.result.now old} c.in-Ok.ensures.ok);
     }
+
+pub returns-in-Ok-clause-few : goal.returns-in-Ok-clause-few
+returns-in-Ok-clause-few g c =
+    let made = ap (λ (t : IndexedState). length t.rows) c.in-Ok.ensures.ok in
+    let is = ap (λ (s : OpenState). length s.table.rows) c.land.ensures.there in omega (arith, made, is)

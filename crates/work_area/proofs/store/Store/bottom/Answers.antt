@@ -20,4 +20,4 @@ returns g c =
     let made = ap (λ (s : StoreState). with_table s t c.make_move.new.self) c.self.view_is in
     moved (FnReturnsAt g.F.Fn) c.args.see bottom_of now _ t o c.make_move.new.self c.args.budget c.make_move.result
     there
-    made c.make_move.ensures
+    made c.make_move.ensures.moves

@@ -19,7 +19,7 @@ invariant_of-self g c =
     subst (λ (s : StoreState). held.table < length s.tables) (sym c.self.view_is) c.requires.table in
     let elsewhere : is_elsewhere inside held.table ≡ false =
     subst (λ (s : StoreState). is_elsewhere s held.table ≡ false) (sym c.self.view_is) c.requires.elsewhere in
-    let sound = held_sound inside.tables inside.tables inside.areas inside.selected inside.limit held refl lt elsewhere
+    let sound = held_sound inside.tables inside.areas inside.selected inside.limit held lt elsewhere
     c.self.invariant in
     subst (λ p. IsStore inside.tables (slice_set inside.areas (p - 1) (Some held)) inside.selected inside.limit)
     (sym c.from.ensures) sound

@@ -23,7 +23,7 @@ returns-in-Ok g c =
     from_here now t o _ there
     (λ shown sees. indexed c.args.list c.args.number now _ c.note_list.new.self t o c.index_on.new.self
     (index_on_of c.args.number o shown) c.args.budget c.in-Ok.cost there made c.note_list.ensures
-    (c.in-Ok.ensures shown sees))
+    (c.in-Ok.ensures.ends shown sees))
 
 pub returns-in-Err : goal.returns-in-Err
 returns-in-Err g c =
@@ -43,4 +43,4 @@ returns-in-Err g c =
     from_here now t o _ there
     (λ shown sees. not_ended (indexed_here c.args.list) now _ o (opened (c.args.number ∷ []) o) c.index_on.new.self
     (index_on_of c.args.number o shown) c.args.budget c.in-Err.refused (put_back now t o there)
-    (made ∙ sym (put_here now t o c.index_on.new.self there)) (c.in-Err.ensures shown sees))
+    (made ∙ sym (put_here now t o c.index_on.new.self there)) (c.in-Err.ensures.ends shown sees))

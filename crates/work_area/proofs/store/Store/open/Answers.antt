@@ -33,7 +33,7 @@ returns-in-Ok g c =
     from_there now t o _ is
     (λ shown sees. used t c.args.list c.args.indexes.now now mid c.let_go.new.self c.hold.new.self o c.open.new.self
     (open_of c.args.indexes.now o shown) c.args.budget c.in-Ok.cost made c.let_go.ensures c.hold.ensures
-    (c.in-Ok.ensures shown sees))
+    (c.in-Ok.ensures.ends shown sees))
 
 pub returns-in-Err : goal.returns-in-Err
 returns-in-Err g c =
@@ -55,7 +55,7 @@ returns-in-Err g c =
     c.from.ensures ∙ ap (λ (s : StoreState). with_table s t c.open.new.self) c.self.view_is in
     from_there now t o _ is
     (λ shown sees. not_used (used_here t c.args.list) t now mid o (opened c.args.indexes.now o) c.open.new.self
-    (open_of c.args.indexes.now o shown) c.args.budget c.in-Err.refused is made (c.in-Err.ensures shown sees))
+    (open_of c.args.indexes.now o shown) c.args.budget c.in-Err.refused is made (c.in-Err.ensures.ends shown sees))
 
 pub open-requires-clause-declared : goal.open-requires-clause-declared
 open-requires-clause-declared g c =

@@ -22,4 +22,4 @@ returns g c =
     c.place_here-t.ensures.table c.place_here-t.ensures.within c.index_mut.ensures.value in
     let made = ap (λ (s : StoreState). with_table s t c.pack.new.self) c.self.view_is in
     ended (FnReturnsAt g.F.Fn) c.args.see packed_rows packed_in pack_of now _ t o c.pack.new.self c.args.budget
-    c.pack.result there made c.pack.ensures
+    c.pack.result there made c.pack.ensures.ends

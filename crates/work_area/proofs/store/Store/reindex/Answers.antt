@@ -22,4 +22,4 @@ returns g c =
     c.place_here-t.ensures.table c.place_here-t.ensures.within c.index_mut.ensures.value in
     let made = ap (λ (s : StoreState). with_table s t c.reindex.new.self) c.self.view_is in
     ended (FnReturnsAt g.F.Fn) c.args.see all_rows reindexed_in reindex_of now _ t o c.reindex.new.self c.args.budget
-    c.reindex.result there made c.reindex.ensures
+    c.reindex.result there made c.reindex.ensures.ends

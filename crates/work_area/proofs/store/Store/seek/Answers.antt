@@ -22,4 +22,4 @@ returns g c =
     c.place_here-t.ensures.table c.place_here-t.ensures.within c.index_mut.ensures.value in
     let made = ap (λ (s : StoreState). with_table s t c.seek.new.self) c.self.view_is in
     moved (FnReturnsAt g.F.Fn) c.args.see (seek_of c.args.exact c.args.text.now) now _ t o c.seek.new.self c.args.budget
-    c.seek.result there made c.seek.ensures
+    c.seek.result there made c.seek.ensures.moves

@@ -32,6 +32,6 @@ returns g c =
     let Sees = λ (shown : ℕ → Bool). ShowsRows (FnReturnsAt g.F.Fn) c.args.see o.table.structure o.table.rows shown in
     let said = λ (shown : ℕ → Bool) (sees : Sees shown).
     subst (λ l. IsMoved (landed o) o c.make_move.new.self l c.args.budget c.make_move.result) (is_skip shown)
-    (c.make_move.ensures shown sees) in
+    (c.make_move.ensures.moves shown sees) in
     moved (FnReturnsAt g.F.Fn) c.args.see (skip_of c.args.steps) now _ t o c.make_move.new.self c.args.budget
     c.make_move.result there made said

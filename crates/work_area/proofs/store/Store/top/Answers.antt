@@ -19,4 +19,4 @@ returns g c =
     c.index_mut.ensures.value in
     let made = ap (λ (s : StoreState). with_table s t c.make_move.new.self) c.self.view_is in
     moved (FnReturnsAt g.F.Fn) c.args.see top_of now _ t o c.make_move.new.self c.args.budget c.make_move.result there
-    made c.make_move.ensures
+    made c.make_move.ensures.moves

@@ -22,4 +22,4 @@ returns g c =
     let made = ap (λ (s : StoreState). with_table s t c.zap.new.self) c.self.view_is in
     from_here now t o _ there
     (ended_by now _ o (zapped_in o) c.zap.new.self zap_landing c.args.budget c.zap.result (put_back now t o there)
-    (made ∙ sym (put_here now t o c.zap.new.self there)) (c.zap.ensures (λ n. true)))
+    (made ∙ sym (put_here now t o c.zap.new.self there)) (c.zap.ensures.ends (λ n. true)))

@@ -1,0 +1,5 @@
+-- What the contracts of `calendar` say.
+pub use Rattle.calendar.specs.Days
+pub use Rattle.calendar.specs.Calendar
+pub use Rattle.calendar.specs.DateTexts
+pub use Rattle.calendar.specs.Laws

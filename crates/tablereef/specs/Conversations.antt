@@ -1,4 +1,0 @@
--- What the contracts of `conversations` say.
-pub use Rattle.operating.specs.Talks
-pub use Rattle.operating.specs.Answers
-pub use Rattle.operating.specs.Pieces

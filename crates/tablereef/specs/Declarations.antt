@@ -1,7 +1,0 @@
--- What the contracts of `declarations` say.
-pub use Rattle.shape_files.specs.Keys
-pub use Rattle.shape_files.specs.Lines
-pub use Rattle.shape_files.specs.Listing
-pub use Rattle.shape_files.specs.Refusals
-pub use Rattle.shape_files.specs.Shapes
-pub use Rattle.shape.specs.Whole

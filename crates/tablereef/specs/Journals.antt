@@ -1,2 +1,0 @@
--- What the contracts of `journals` say.
-pub use Rattle.line_journal.specs.Kept

@@ -1,2 +1,0 @@
--- What the contracts of `lines` say.
-pub use Rattle.text_lines.specs.Lines

@@ -1,4 +1,0 @@
--- What the contracts of `listings` say.
-pub use Rattle.file_commands.specs.Lines
-pub use Rattle.file_commands.specs.Refusals
-pub use Rattle.file_commands.specs.Reports

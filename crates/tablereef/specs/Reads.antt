@@ -1,2 +1,0 @@
--- What the contracts of `reads` say.
-pub use Rattle.waiting_fields.specs.Reads

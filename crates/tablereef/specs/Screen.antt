@@ -1,6 +1,0 @@
--- What the contracts of `screen` say.
-pub use Rattle.screen_lines.specs.Roll
-pub use Rattle.screen_lines.specs.State
-pub use Rattle.screen_lines.specs.Commands
-pub use Rattle.screen_lines.specs.Shape
-pub use Rattle.screen_lines.specs.Kept

@@ -1,3 +1,0 @@
--- What the contracts of `sheets` say.
-pub use Rattle.table_csv.specs.Cells
-pub use Rattle.table_csv.specs.Written

@@ -1,0 +1,3 @@
+-- What the contracts of `table_csv` say.
+pub use Rattle.table_csv.specs.Cells
+pub use Rattle.table_csv.specs.Written

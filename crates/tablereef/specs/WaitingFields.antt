@@ -1,0 +1,2 @@
+-- What the contracts of `waiting_fields` say.
+pub use Rattle.waiting_fields.specs.Reads
