@@ -24,8 +24,8 @@ invariant_of-self g c =
           (λ e. subst (λ t. IsOpen t list c.self.inside.order) (sym e) c.self.invariant.is_open);
     }
 
-pub returns : goal.returns
-returns g c = λ shown sees.
+pub returns-clause-ends : goal.returns-clause-ends
+returns-clause-ends g c = λ shown sees.
     let now : OpenState = c.args.self.now in
     let inside = c.self.inside in
     let numbers = c.as_slice.result.now in
