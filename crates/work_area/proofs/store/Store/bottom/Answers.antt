@@ -1,9 +1,10 @@
-use Rattle.std.proofs.Common.{ap}
+use Rattle.std.proofs.Common.{ap, length, arith}
 use Rattle.std.specs.Fn.{FnReturnsAt}
 use Rattle.open_table.specs.Open.{OpenState}
 use Rattle.work_area.specs.Areas.{StoreState, with_table}
 use Rattle.work_area.specs.Calls.{bottom_of}
 use Rattle.work_area.proofs.PlaceLemmas.{IsHere, stands, moved}
+use Rattle.work_area.proofs.LimitLemmas.{put_in}
 use Rattle.work_area.proofs.store.Store.bottom.Goals as goal
 
 pub returns : goal.returns
@@ -21,3 +22,9 @@ returns g c =
     moved (FnReturnsAt g.F.Fn) c.args.see bottom_of now _ t o c.make_move.new.self c.args.budget c.make_move.result
     there
     made c.make_move.ensures.moves
+
+pub invariant_of-self : goal.invariant_of-self
+invariant_of-self g c =
+    let count = ap (λ (s : StoreState). length s.tables) c.self.view_is in
+    put_in _ _ _ _ c.place_here-t.result c.index_mut.result.now c.make_move.new.self c.self.invariant
+    (omega (arith, count, c.place_here-t.ensures.within)) c.index_mut.ensures.value c.make_move.ensures.few

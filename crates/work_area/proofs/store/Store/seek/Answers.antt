@@ -1,9 +1,10 @@
-use Rattle.std.proofs.Common.{ap}
+use Rattle.std.proofs.Common.{ap, length, arith}
 use Rattle.std.specs.Fn.{FnReturnsAt}
 use Rattle.open_table.specs.Open.{OpenState}
 use Rattle.work_area.specs.Areas.{StoreState, with_table}
 use Rattle.work_area.specs.Calls.{seek_of}
 use Rattle.work_area.proofs.PlaceLemmas.{IsHere, stands, moved}
+use Rattle.work_area.proofs.LimitLemmas.{put_in}
 use Rattle.work_area.proofs.store.Store.seek.Goals as goal
 
 pub returns : goal.returns
@@ -23,3 +24,9 @@ returns g c =
     let made = ap (λ (s : StoreState). with_table s t c.seek.new.self) c.self.view_is in
     moved (FnReturnsAt g.F.Fn) c.args.see (seek_of c.args.exact c.args.text.now) now _ t o c.seek.new.self c.args.budget
     c.seek.result there made c.seek.ensures.moves
+
+pub invariant_of-self : goal.invariant_of-self
+invariant_of-self g c =
+    let count = ap (λ (s : StoreState). length s.tables) c.self.view_is in
+    put_in _ _ _ _ c.place_here-t.result c.index_mut.result.now c.seek.new.self c.self.invariant
+    (omega (arith, count, c.place_here-t.ensures.within)) c.index_mut.ensures.value c.seek.ensures.few

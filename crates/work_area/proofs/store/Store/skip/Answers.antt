@@ -1,4 +1,4 @@
-use Rattle.std.proofs.Common.{◌≡◌, ℕ, Bool, ap, subst}
+use Rattle.std.proofs.Common.{◌≡◌, ℕ, Bool, ap, subst, length, arith}
 use Rattle.std.specs.Fn.{FnReturnsAt}
 use Rattle.std.proofs.lemmas.Int.{to_z-of_z}
 use Rattle.std.specs.Int.{w128}
@@ -9,6 +9,7 @@ use Rattle.open_table.specs.Open.{OpenState, IsMoved, landed, order_index}
 use Rattle.work_area.specs.Areas.{StoreState, with_table}
 use Rattle.work_area.specs.Calls.{skip_of}
 use Rattle.work_area.proofs.PlaceLemmas.{IsHere, stands, moved}
+use Rattle.work_area.proofs.LimitLemmas.{put_in}
 use Rattle.work_area.proofs.store.Store.skip.Goals as goal
 
 pub returns : goal.returns
@@ -35,3 +36,9 @@ returns g c =
     (c.make_move.ensures.moves shown sees) in
     moved (FnReturnsAt g.F.Fn) c.args.see (skip_of c.args.steps) now _ t o c.make_move.new.self c.args.budget
     c.make_move.result there made said
+
+pub invariant_of-self : goal.invariant_of-self
+invariant_of-self g c =
+    let count = ap (λ (s : StoreState). length s.tables) c.self.view_is in
+    put_in _ _ _ _ c.place_here-t.result c.index_mut.result.now c.make_move.new.self c.self.invariant
+    (omega (arith, count, c.place_here-t.ensures.within)) c.index_mut.ensures.value c.make_move.ensures.few
