@@ -32,5 +32,5 @@ returns-clause-moves g c = λ shown sees.
 
 pub returns-clause-few : goal.returns-clause-few
 returns-clause-few g c =
-    let same = c.settle.ensures.table ∙ c.make_move-moved.ensures.same ∙ ap (λ (s : OpenState). s.table) c.self.view_is in
-    let rows = ap (λ (t : IndexedState). length t.rows) same in omega (arith, rows)
+    let was = ap (λ (s : OpenState). length s.table.rows) c.self.view_is in
+    let is = ap (λ (t : IndexedState). length t.rows) c.settle.ensures.table in omega (arith, was, is)

@@ -27,4 +27,4 @@ returns-clause-ends g c = λ shown sees.
     ∙ ap (λ (s : OpenState). count_stale list s.table.marks) c.self.view_is) in
     subst (λ b. IsEnded (landed (opened list now)) now c.open_made.new.self (at_higher_cost b
     (end_of shown true (order_pairs (slice_get list 0) now.table))) c.args.budget c.open_made.result) base
-    (c.open_made.ensures shown sees)
+    (c.open_made.ensures.ends shown sees)

@@ -1,4 +1,4 @@
-use Rattle.std.proofs.Common.{◌≡◌, ℕ, ◌+◌, ◌*◌, true, Option, List, length, sym, ap, ◌∙◌, subst}
+use Rattle.std.proofs.Common.{◌≡◌, ℕ, ◌+◌, ◌*◌, true, Option, List, length, sym, ap, ◌∙◌, subst, arith}
 use Rattle.std.specs.Fn.{FnReturnsAt}
 use Rattle.dbf_file.specs.Rows.{unmarked}
 use Rattle.row_moves.specs.Moves.{Landing, end_of}
