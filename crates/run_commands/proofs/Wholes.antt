@@ -26,6 +26,7 @@ use Rattle.run_commands.specs.Reports.{HasRun, IsAccepted, IsSavedRun, IsTested,
 use Rattle.run_commands.specs.Runs.{IsLeft, IsSoundRun}
 use Rattle.run_commands.specs.Sessions.{IsCompleted, MayRun, RanLoaded, RanOver, code_run}
 use Rattle.run_steps.specs.declared.ending.Outcome.{Outcome}
+use Rattle.run_steps.specs.Shapes.{StoreFits}
 use Rattle.shape.specs.declared.whole.Shape.{Shape}
 use Rattle.table_changes.specs.declared.stores.Changes.{Changes}
 use Rattle.table_changes.specs.declared.stores.KeptStore.{KeptStore}
@@ -69,7 +70,30 @@ run_same a b same job typed IsOf code baseline outcome rows tables h = record {
   fits = h.fits;
 }
 
+-- the tables that were loaded, of the code as it was lent
+pub ran_loaded : {B : Type 0} (a : Holds) (job : Job) (typed : List ℕ) (IsOf : Shape → StoreState → B → Type 0)
+    (code seen : Code) (baseline : B) (outcome : Outcome) (rows : List ℕ) (store tables : StoreState) (limit : ℕ)
+    → seen ≡ code → limit ≡ job.limit → Loaded a seen.declared.shape limit store
+    → IsOf seen.declared.shape store baseline → RanOver code store job typed outcome rows tables
+    → StoreFits code.declared tables
+    → RanLoaded a job typed (IsOf code.declared.shape) code baseline outcome rows tables
+ran_loaded a job typed IsOf code seen baseline outcome rows store tables limit lent limited loaded of ran fits = record {
+  store = store;
+  loaded =
+      subst (λ n. Loaded a code.declared.shape n store) limited
+      (subst (λ (s : Code). Loaded a s.declared.shape limit store) lent loaded);
+  recorded = subst (λ (s : Code). IsOf s.declared.shape store baseline) lent of;
+  ran = ran;
+  fits = fits;
+}
+
 -- ---- refusals before the run
+
+pub refused_memory : (a : Holds) (job : Job) (code : Code) (broke : Type 0) (refusal : OperateRefusal)
+    → IfOfRun (λ why. why ≡ Memory) refusal → IfOfRun (IsOfTables a job code broke) refusal
+refused_memory a job code broke (Run refusal) h = subst (IsOfTables a job code broke) (sym h) tt
+refused_memory a job code broke (Broke why) h = h
+refused_memory a job code broke Handed h = h
 
 tables_same : (a b : Holds) → SameFiles a b → (broke breaks : Type 0) → (breaks → broke) → (job : Job) (code : Code)
     → MayLoad job code → IsCodeFile (a job.name.now) code → (refusal : RunRefusal)
@@ -159,6 +183,7 @@ sound_with job whole typed code store tables outcome rows w untested ran =
       no_fault = both.1 (w.checked ∙ untested);
       tables_are = both.0.tables_are;
       fits = both.0.fits;
+      within_the_limit = both.0.within_the_limit;
     }
 
 loaded_with : (a : Holds) (job whole : Job) (typed : List ℕ) (shape : Shape) (store : StoreState)

@@ -24,6 +24,7 @@ use line_journal::Journal;
 use machine::Banks;
 use ndx_tree::NdxTree;
 use operating::{Operator, Watcher, converse, run_in_parts, typed};
+use run_laws::laws::runs_keep_the_limit;
 use run_steps::Outcome;
 use std::alloc::Global;
 use tagged_machine::World;
@@ -132,6 +133,8 @@ fn run_any<W: Watcher>(
         (tables_left run.state)) }
     ensures refused { IfErr result (λ refusal. refusal ≡ OfRun Memory) }
 {
+    runs_keep_the_limit();
+    store.tables_are_within_the_limit();
     let lines = typed(alloc, job.input)?;
     let mut world = World::opening(alloc, code, store, job.day.day(), lines)?;
     let outcome = run_checked_in_parts(alloc, code, &mut world, job.budget, watcher);
@@ -156,6 +159,8 @@ fn run_verified<W: Watcher>(
         (tables_left run.state)) }
     ensures refused { IfErr result (λ refusal. refusal ≡ OfRun Memory) }
 {
+    runs_keep_the_limit();
+    store.tables_are_within_the_limit();
     let lines = typed(alloc, job.input)?;
     let mut banks = Banks::opening(alloc, verified, store, job.day.day(), lines)?;
     let outcome = run_in_parts(alloc, verified, &mut banks, job.budget, watcher);
@@ -233,6 +238,8 @@ impl<J: Journal, O: Operator> Session<J, O> for Conversation {
         let RunnableCode::Verified(verified) = code else {
             unreachable!()
         };
+        runs_keep_the_limit();
+        store.tables_are_within_the_limit();
         let (day, budget) = (job.day.day(), job.budget);
         let talk = converse(
             alloc, verified, store, day, job.input, journal, operator, budget, self.most,
