@@ -1,19 +1,17 @@
 //! Runs over loaded tables, and who gives their lines.
 
 ghost use Rattle.code_items.specs.Legal.{IsCode};
-ghost use Rattle.operating.specs.declared.operator.OperatorFailed.{OperatorFailed as AnyFailure};
 ghost use Rattle.run_commands.specs.declared.job.Job.{Job as AnyJob};
 ghost use Rattle.run_commands.specs.declared.refusal.OperateRefusal.{OperateRefusal as AnyRefusal};
 ghost use Rattle.run_commands.specs.declared.refusal.OperateRefusal.TheVariants.{Run as OfRun};
 ghost use Rattle.run_commands.specs.declared.refusal.RunRefusal.{RunRefusal as AnyRunRefusal};
 ghost use Rattle.run_commands.specs.declared.refusal.RunRefusal.TheVariants.{Memory};
 ghost use Rattle.run_commands.specs.Operating.{IfOfRun};
-ghost use Rattle.run_commands.specs.Runs.{IsLeft, IsSoundRun};
 ghost use Rattle.run_commands.specs.SessionLaws as laws;
 ghost use Rattle.run_commands.specs.Sessions.{IsOfRunOnly, SessionLeaves, MayConverse, MayRun, RanOver};
 ghost use Rattle.run_commands.specs.Sessions.{code_run, refusal_in, tables_left};
 ghost use Rattle.run_steps.specs.Shapes.{StoreFits};
-ghost use Rattle.std.specs.Prelude.{◌≡◌, ℕ, List, Option, Some, None, IfErr, IfOk, ⊤};
+ghost use Rattle.std.specs.Prelude.{◌≡◌, ℕ, List, Option, Some, None, true, IfErr, IfOk, ⊤};
 
 use crate::job::Job;
 use crate::refusal::OperateRefusal;
@@ -129,9 +127,12 @@ fn run_any<W: Watcher>(
     watcher: &mut W,
 ) -> Result<EndedRun, OperateRefusal>
     requires fits { StoreFits code.now.declared store }
-    ensures left { IfOk result (λ run. IsLeft code.now store job.now run.outcome run.rows.items
+    requires tested { job.now.checked ≡ true }
+    ensures ran { IfOk result (λ run. RanOver code.now store job.now job.now.input.now run.outcome run.rows.items
         (tables_left run.state)) }
-    ensures refused { IfErr result (λ refusal. refusal ≡ OfRun Memory) }
+    ensures fits { IfOk result (λ run. StoreFits code.now.declared (tables_left run.state)) }
+    ensures refused { IfErr result (IfOfRun (λ refusal. refusal ≡ Memory)) }
+    ensures only { IsOfRunOnly (refusal_in result) }
 {
     runs_keep_the_limit();
     store.tables_are_within_the_limit();
@@ -155,9 +156,11 @@ fn run_verified<W: Watcher>(
     watcher: &mut W,
 ) -> Result<EndedRun, OperateRefusal>
     requires fits { StoreFits verified.now.declared store }
-    ensures left { IfOk result (λ run. IsSoundRun verified.now store job.now run.outcome run.rows.items
+    ensures ran { IfOk result (λ run. RanOver verified.now store job.now job.now.input.now run.outcome run.rows.items
         (tables_left run.state)) }
-    ensures refused { IfErr result (λ refusal. refusal ≡ OfRun Memory) }
+    ensures fits { IfOk result (λ run. StoreFits verified.now.declared (tables_left run.state)) }
+    ensures refused { IfErr result (IfOfRun (λ refusal. refusal ≡ Memory)) }
+    ensures only { IsOfRunOnly (refusal_in result) }
 {
     runs_keep_the_limit();
     store.tables_are_within_the_limit();
@@ -169,6 +172,42 @@ fn run_verified<W: Watcher>(
         rows,
         outcome,
         state: FinalState::Plain(banks),
+    })
+}
+
+/// Runs an accepted code on the machine without tags while an operator types its lines, of at most so many bytes.
+fn run_typed<J: Journal, O: Operator>(
+    alloc: Global,
+    verified: &xverify::Verified,
+    store: Store<NdxTree>,
+    job: &Job<'_>,
+    most: usize,
+    journal: &mut J,
+    operator: &mut O,
+) -> Result<EndedRun, OperateRefusal>
+    requires fits { StoreFits verified.now.declared store }
+    requires may_begin { MayConverse most job.now (J.holds journal.old) }
+    ensures ran { IfOk result (λ run. RanOver verified.now store job.now (J.holds journal.new) run.outcome
+        run.rows.items (tables_left run.state)) }
+    ensures fits { IfOk result (λ run. StoreFits verified.now.declared (tables_left run.state)) }
+    ensures refused { IfErr result (IfOfRun (λ refusal. refusal ≡ Memory)) }
+    ensures leaves { SessionLeaves most
+        (laws.session_state (J.holds journal.old) (J.failed journal.old) (O.answered operator.old)
+        (O.failure operator.old))
+        (laws.session_state (J.holds journal.new) (J.failed journal.new) (O.answered operator.new)
+        (O.failure operator.new)) (refusal_in result) }
+{
+    runs_keep_the_limit();
+    store.tables_are_within_the_limit();
+    let (day, budget) = (job.day.day(), job.budget);
+    let talk = converse(
+        alloc, verified, store, day, job.input, journal, operator, budget, most,
+    )?;
+    let rows = talk.banks.finish(alloc)?;
+    Ok(EndedRun {
+        rows,
+        outcome: talk.outcome,
+        state: FinalState::Plain(talk.banks),
     })
 }
 
@@ -235,20 +274,11 @@ impl<J: Journal, O: Operator> Session<J, O> for Conversation {
         journal: &mut J,
         operator: &mut O,
     ) -> Result<EndedRun, OperateRefusal> {
-        let RunnableCode::Verified(verified) = code else {
-            unreachable!()
-        };
-        runs_keep_the_limit();
-        store.tables_are_within_the_limit();
-        let (day, budget) = (job.day.day(), job.budget);
-        let talk = converse(
-            alloc, verified, store, day, job.input, journal, operator, budget, self.most,
-        )?;
-        let rows = talk.banks.finish(alloc)?;
-        Ok(EndedRun {
-            rows,
-            outcome: talk.outcome,
-            state: FinalState::Plain(talk.banks),
-        })
+        match code {
+            RunnableCode::Any(_) => unreachable!(),
+            RunnableCode::Verified(verified) => {
+                run_typed(alloc, verified, store, job, self.most, journal, operator)
+            }
+        }
     }
 }
