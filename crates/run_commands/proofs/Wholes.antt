@@ -87,6 +87,20 @@ ran_loaded a job typed IsOf code seen baseline outcome rows store tables limit l
   fits = fits;
 }
 
+-- the same, of the code in the job's file
+pub completed : {B : Type 0} (a b : Holds) → SameFiles a b → (job : Job) (typed : List ℕ)
+    (IsOf : Shape → StoreState → B → Type 0) (found : Code) (code : RunnableCode) (baseline : B) (outcome : Outcome)
+    (rows : List ℕ) (tables : StoreState) → IsCodeFile (a job.name.now) found → code_run code ≡ found
+    → MayRun job.checked code
+    → RanLoaded b job typed (IsOf (code_run code).declared.shape) (code_run code) baseline outcome rows tables
+    → IsCompleted a job typed IsOf code baseline outcome rows tables
+completed a b same job typed IsOf found code baseline outcome rows tables file is may run = record {
+  file = subst (IsCodeFile (a job.name.now)) (sym is) file;
+  may = may;
+  run = run_same a b same job typed (IsOf (code_run code).declared.shape) (code_run code) baseline outcome rows tables
+      run;
+}
+
 -- ---- refusals before the run
 
 pub refused_memory : (a : Holds) (job : Job) (code : Code) (broke : Type 0) (refusal : OperateRefusal)
