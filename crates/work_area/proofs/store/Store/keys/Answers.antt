@@ -3,7 +3,6 @@ use Rattle.std.proofs.Common.{cond, is_some, sym, ap, ◌∙◌, subst, arith}
 use Rattle.std.specs.Prelude.{find, IfSome}
 use Rattle.row_keys.specs.Lists.{index_list}
 use Rattle.open_table.specs.Marks.{mark_at, parts_in, form_in}
-use Rattle.open_table.specs.Tables.{IndexedState}
 use Rattle.open_table.specs.Open.{OpenState}
 use Rattle.work_area.specs.Areas.{StoreState, index_table}
 use Rattle.work_area.proofs.store.Store.keys.Goals as goal
@@ -16,41 +15,32 @@ find_at p (y ∷ xs) zero x lt e t =
 find_at p (y ∷ xs) (suc k) x lt e t = find_at p xs k x (omega arith) e t
 
 -- where the loop over the tables ends is the table of the index
-table_found : (now s : StoreState) (n : ℕ) (items : List OpenState) (k : ℕ) (o : OpenState) (t : IndexedState)
-    (b : Bool) → items ≡ s.tables → s ≡ now → k < length items → o ≡ get_or items k o → t ≡ o.table
-    → b ≡ is_some (mark_at t.marks n) → b ≡ true
+table_found : (now s : StoreState) (n : ℕ) (items : List OpenState) (k : ℕ) (o : OpenState) (b : Bool)
+    → items ≡ s.tables → s ≡ now → k < length items → o ≡ get_or items k o → b ≡ is_some (mark_at o.table.marks n)
+    → b ≡ true
     → find (λ x. is_some (mark_at x.table.marks n)) (drop k items) ≡ find (λ x. is_some (mark_at x.table.marks n)) items
     → index_table now n ≡ Some o
-table_found now s n items k o t b same view lt e table told has_it rest =
+table_found now s n items k o b same view lt e told has_it rest =
     let has : OpenState → Bool = λ x. is_some (mark_at x.table.marks n) in
-    let here : has o ≡ true = ap (λ (u : IndexedState). is_some (mark_at u.marks n)) (sym table) ∙ sym told ∙ has_it in
     ap (λ (u : StoreState). find has u.tables) (sym view) ∙ ap (find has) (sym same) ∙ sym rest
-    ∙ find_at has items k o lt e here
+    ∙ find_at has items k o lt e (sym told ∙ has_it)
 
 pub returns-then-has_index-clause-exact : goal.returns-then-has_index-clause-exact
 returns-then-has_index-clause-exact g c =
     let n : ℕ = c.args.number in
     let e = table_found c.args.self.now _ n c.deref-table-items.result.now c.loop-t.t c.table-item.result
-    c.table.result.now c.has_index.result
-    c.deref-table-items.ensures.value c.self.view_is c.loop-t-test.true c.table-item.is c.table.ensures
+    c.has_index.result c.deref-table-items.ensures.value c.self.view_is c.loop-t-test.true c.table-item.is
     c.has_index.ensures c.if-has_index.true c.loop-t.invariant in
     subst (λ (x : Option OpenState). IfSome c.keys.result
     (λ keys. IfSome x (λ a. g.K.KeyList.pairs keys.now ≡ index_list (parts_in (mark_at a.table.marks n))
-    a.table.rows))) (sym e)
-    (subst (λ (t : IndexedState). IfSome c.keys.result
-    (λ keys. g.K.KeyList.pairs keys.now ≡ index_list (parts_in (mark_at t.marks n)) t.rows))
-    c.table-then-has_index.ensures c.keys.ensures.exact)
+    a.table.rows))) (sym e) c.keys.ensures.exact
 
 pub returns-then-has_index-clause-form : goal.returns-then-has_index-clause-form
 returns-then-has_index-clause-form g c =
     let n : ℕ = c.args.number in
     let e = table_found c.args.self.now _ n c.deref-table-items.result.now c.loop-t.t c.table-item.result
-    c.table.result.now c.has_index.result
-    c.deref-table-items.ensures.value c.self.view_is c.loop-t-test.true c.table-item.is c.table.ensures
+    c.has_index.result c.deref-table-items.ensures.value c.self.view_is c.loop-t-test.true c.table-item.is
     c.has_index.ensures c.if-has_index.true c.loop-t.invariant in
     subst (λ (x : Option OpenState). IfSome c.keys.result
     (λ keys. IfSome x (λ a. g.K.KeyList.form keys.now ≡ form_in a.table.structure (mark_at a.table.marks n))))
-    (sym e)
-    (subst (λ (t : IndexedState). IfSome c.keys.result
-    (λ keys. g.K.KeyList.form keys.now ≡ form_in t.structure (mark_at t.marks n))) c.table-then-has_index.ensures
-    c.keys.ensures.form)
+    (sym e) c.keys.ensures.form
