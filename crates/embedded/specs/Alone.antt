@@ -24,8 +24,8 @@ seen_alone today = record {
 }
 
 -- no slot, all work areas closed and the first selected, and nothing on the stack
-abbrev pub nothing_known : State
-nothing_known = record {
+abbrev pub no_knowledge : State
+no_knowledge = record {
   desk = record { selected = 1; areas = replicate 10 Closed };
   slots = [];
   stack = [];
@@ -33,7 +33,7 @@ nothing_known = record {
 
 -- what its names are looked up in
 abbrev pub no_names : Shape → Scoped
-no_names shape = record { shape = shape; state = nothing_known; names = []; in_filter = false }
+no_names shape = record { shape = shape; state = no_knowledge; names = []; in_filter = false }
 
 -- a code that declares no slot and begins with the expression's code, which has so many instructions
 pub record BeginsWith (e : Tree) (count : ℕ) (code : Code) : Type 0 where

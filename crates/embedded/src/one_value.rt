@@ -1,7 +1,7 @@
 //! The value of an expression: it is compiled, the checking machine runs its code, and its value is on top then.
 
 ghost use Rattle.std.specs.Prelude.{◌≡◌, ◌∷◌, [], ◌<◌, IfOk, IfSome, length, take};
-ghost use Rattle.embedded.specs.Alone.{seen_alone, nothing_known, BeginsWith};
+ghost use Rattle.embedded.specs.Alone.{seen_alone, no_knowledge, BeginsWith};
 ghost use Rattle.tablereef.specs.ExprLaws.Meaning.{value_in};
 ghost use Rattle.tablereef.specs.FitLaws.Fits.{IsFitting};
 ghost use Rattle.tablereef.specs.RunLaws.Opening.{opening};
@@ -51,8 +51,8 @@ fn no_shape(alloc: Global) -> Shape {
 }
 
 /// What is known where nothing is: no slot, all areas closed and the first selected, nothing on the stack.
-fn nothing_known(alloc: Global) -> Result<State, AllocError>
-    ensures { IfOk result (λ state. state ≡ nothing_known) }
+fn no_knowledge(alloc: Global) -> Result<State, AllocError>
+    ensures { IfOk result (λ state. state ≡ no_knowledge) }
 {
     let areas = vec![in alloc; AreaState::Closed; 10]?;
     Ok(State {
@@ -93,8 +93,8 @@ fn code_around(
     let main = Proc {
         length: block.len() as u16 + 2,
         level: 0,
-        entry: nothing_known(alloc)?,
-        exit: nothing_known(alloc)?,
+        entry: no_knowledge(alloc)?,
+        exit: no_knowledge(alloc)?,
     };
     let mut procedures = Vec::new(alloc);
     procedures.push(main)?;
@@ -133,7 +133,7 @@ fn compiled_as(alloc: Global, e: &Expr, kind: Kind) -> Option<Compiled>
     ensures { IfSome result (λ compiled. BeginsWith (tree_of e.now) compiled.count compiled.verified) }
 {
     let shape = no_shape(alloc);
-    let state = nothing_known(alloc).ok()?;
+    let state = no_knowledge(alloc).ok()?;
     let names = Names::new(alloc);
     let scope = Scope {
         shape: &shape,
