@@ -5,13 +5,13 @@ use Rattle.std.proofs.lemmas.Bool.{eqb-false, or_parts}
 use Rattle.std.proofs.lemmas.List.{set-set, set-get_or, get_or-set_other, length-set}
 use Rattle.std.specs.List.{Contains}
 use Rattle.dbf_file.specs.Rows.{Row, row_at, no_row, with_text}
-use Rattle.dbf_file.specs.Tables.{StructureState}
+use Rattle.dbf_file.specs.Tables.{StructureState, row_widths}
 use Rattle.key_lists.specs.KeyForm.{KeyForm, IsKeyText}
 use Rattle.key_lists.specs.Order.{inserted, without}
 use Rattle.key_lists.specs.Pairs.{Pair, is_before}
 use Rattle.key_lists.specs.SortedList.{SortedList}
 use Rattle.shape.specs.declared.parts.KeyPart.{KeyPart}
-use Rattle.shape.specs.Keys.{cased, part_text, key_of}
+use Rattle.shape.specs.Keys.{IsKey, cased, part_text, key_of, key_length}
 use Rattle.row_keys.specs.Lists.{index_list, row_pair, IsIndexList, IsIndexOf, IsExact, IsAsBefore, HasAdded}
 use Rattle.row_keys.specs.Lists.{names_field}
 use Rattle.row_keys.proofs.ListLemmas.{index_list-same}
