@@ -24,8 +24,8 @@ use Rattle.code_items.specs.declared.instr.RecordInstr.{RecordInstr}
 use Rattle.code_items.specs.declared.instr.RecordInstr.TheVariants.{Field, RowField, Ask, Append, Replace, Delete}
 use Rattle.code_items.specs.declared.instr.RecordInstr.TheVariants.{Recall, Pack, Zap, Reindex, Index}
 use Rattle.code_rules.specs.Places.{instr_at}
-use Rattle.dbf_file.specs.Rows.{Row}
-use Rattle.dbf_file.specs.Tables.{StructureState}
+use Rattle.dbf_file.specs.Rows.{Row, blank_row}
+use Rattle.dbf_file.specs.Tables.{StructureState, row_widths}
 use Rattle.run_values.specs.Tagged.{TaggedValues}
 use Rattle.run_steps.specs.World.{World, EnvState}
 use Rattle.run_steps.specs.Effects.{top, on_value, on_table, list_numbers, index_in, open_landing, store_by_area, moved}
@@ -88,7 +88,7 @@ appends_one limit s None at room h = h
 appends_one limit s (Some o) at room h =
     let lt = leb-false s.limit (length o.table.rows) room in
     let limits = h.limit_is in
-    let longer = length-append o.table.rows (_ ∷ []) in
+    let longer = length-append o.table.rows (blank_row (row_widths o.table.structure) ∷ []) in
     at_here limit s (with_blank o) (omega (arith, lt, limits, longer)) h
 
 replaces : (limit : ℕ) (s : StoreState) (f : ℕ) (x : Option Value) → IsWithinLimit limit s
