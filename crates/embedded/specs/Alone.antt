@@ -1,17 +1,17 @@
 -- An expression by itself, without tables and variables.
 use Rattle.std.specs.Prelude.{◌≡◌, ℕ, false, List, [], Option, length, replicate, take}
-use Rattle.calendar.specs.declared.day.DayParts.{DayParts}
-use Rattle.xvalue.specs.Setting.{settings_off}
-use Rattle.xvalue.specs.declared.kind.Kind.{Kind}
-use Rattle.shape.specs.declared.whole.Shape.{Shape}
-use Rattle.code_items.specs.declared.code.Code.{Code}
-use Rattle.code_items.specs.declared.desk.AreaState.TheVariants.{Closed}
-use Rattle.code_items.specs.declared.instr.Instr.{Instr}
-use Rattle.code_items.specs.declared.state.State.{State}
-use Rattle.prg_expr.specs.Tree.{Tree}
-use Rattle.prg_values.specs.Readings.{Scoped}
-use Rattle.prg_values.specs.Written.{IsWrittenExpr}
-use Rattle.expr_laws.specs.Meaning.{Sight, nothing}
+use Rattle.tablereef.specs.Calendar.DayParts.{DayParts}
+use Rattle.tablereef.specs.Xvalue.Setting.{settings_off}
+use Rattle.tablereef.specs.Xvalue.Kind.{Kind}
+use Rattle.tablereef.specs.CodeItems.Shape.{Shape}
+use Rattle.tablereef.specs.CodeItems.Code.{Code}
+use Rattle.tablereef.specs.CodeItems.AreaState.TheVariants.{Closed}
+use Rattle.tablereef.specs.CodeItems.Instr.{Instr}
+use Rattle.tablereef.specs.CodeItems.State.{State}
+use Rattle.tablereef.specs.PrgParser.Tree.{Tree}
+use Rattle.tablereef.specs.PrgCompile.Readings.{Scoped}
+use Rattle.tablereef.specs.PrgCompile.Written.{IsWrittenExpr}
+use Rattle.tablereef.specs.ExprLaws.Meaning.{Sight, nothing}
 
 -- what it sees on a day: all settings are off, and no name stands for anything
 abbrev pub seen_alone : Option DayParts → Sight

@@ -1,24 +1,22 @@
 //! The value of an expression: it is compiled, the checking machine runs its code, and its value is on top then.
 
-ghost use Rattle.std.specs.Prelude.{◌≡◌, ◌∷◌, [], ◌≤◌, ◌<◌, IfOk, IfSome, length};
+ghost use Rattle.std.specs.Prelude.{◌≡◌, ◌∷◌, [], ◌<◌, IfOk, IfSome, length, take};
 ghost use Rattle.embedded.specs.Alone.{seen_alone, nothing_known, BeginsWith};
-ghost use Rattle.tablereef.specs.CodeItems.Legal.{IsCode};
 ghost use Rattle.tablereef.specs.ExprLaws.Meaning.{value_in};
 ghost use Rattle.tablereef.specs.FitLaws.Fits.{IsFitting};
-ghost use Rattle.tablereef.specs.PrgCompile.Written.{IsWrittenExpr};
 ghost use Rattle.tablereef.specs.RunLaws.Opening.{opening};
 ghost use Rattle.tablereef.specs.RunLaws.Run.{Ran};
 ghost use Rattle.tablereef.specs.WorkArea.Areas.{StoreState};
-ghost use Rattle.prg_expr.specs.Tree.{tree_of};
-ghost use Rattle.run_steps.specs.declared.ending.End.TheVariants.{Spent};
-ghost use Rattle.run_steps.specs.declared.ending.Outcome.{Outcome as AnyOutcome};
+ghost use Rattle.tablereef.specs.PrgParser.Tree.{tree_of};
+ghost use Rattle.tablereef.specs.RunLaws.End.TheVariants.{Spent};
+ghost use Rattle.tablereef.specs.RunLaws.Outcome.{Outcome as AnyOutcome};
 
 use std::alloc::{AllocError, Global};
 use tablereef::calendar::Day;
 use tablereef::code_items::laws::legal_codes;
 use tablereef::code_items::{
     AreaState, Code, Declared, Desk, FlowInstr, Instr, Items, KindSlots, KindStack, Proc, Shape,
-    State, Version,
+    State, ValueInstr, Version,
 };
 use tablereef::expr_laws::laws::expressions_leave_their_values;
 use tablereef::file_access::Files;
@@ -31,8 +29,11 @@ use tablereef::tagged_machine::{End, World, run_checked};
 use tablereef::text_lines::TypedLines;
 use tablereef::work_area::MOST_RECORDS;
 use tablereef::xcode::LegalCode;
-use tablereef::xvalue::Value;
+use tablereef::xvalue::{Kind, Value};
 use tablereef::xverify::{Verified, verify};
+
+/// The kinds that a value may have.
+const KINDS: [Kind; 4] = [Kind::Number, Kind::Text, Kind::Date, Kind::Logical];
 
 /// An accepted code that begins with an expression's code, and how many instructions that has.
 #[derive(Drop)]
@@ -75,21 +76,22 @@ fn constants_of(alloc: Global, pool: &Pool) -> Result<Vec<Value>, AllocError>
     Ok(values)
 }
 
-/// A code that begins with this block, has these constants, and ends behind it.
+/// A code that begins with this block, has these constants, and takes a value of this kind behind the block.
 fn code_around(
     alloc: Global,
     shape: Shape,
     constants: Vec<Value>,
     block: Vec<Instr>,
+    kind: Kind,
 ) -> Result<Code, AllocError>
-    requires { length block.items < 65535 }
+    requires { length block.items < 65534 }
     ensures shape { IfOk result (λ code. code.declared.shape ≡ shape) }
     ensures slots { IfOk result (λ code. code.declared.slots ≡ 0) }
     ensures constants { IfOk result (λ code. code.declared.constants ≡ constants.items) }
     ensures there { IfOk result (λ code. take (length block.items) code.instructions ≡ block.items) }
 {
     let main = Proc {
-        length: block.len() as u16 + 1,
+        length: block.len() as u16 + 2,
         level: 0,
         entry: nothing_known(alloc)?,
         exit: nothing_known(alloc)?,
@@ -97,6 +99,7 @@ fn code_around(
     let mut procedures = Vec::new(alloc);
     procedures.push(main)?;
     let mut instructions = block;
+    instructions.push(Instr::Values(ValueInstr::Discard(kind)))?;
     instructions.push(Instr::Flow(FlowInstr::End))?;
     Ok(Code {
         declared: Declared {
@@ -124,8 +127,9 @@ fn accepted(alloc: Global, code: Code) -> Option<Verified>
     }
 }
 
-/// An accepted code that begins with the expression's code.
-fn compiled(alloc: Global, e: &Expr) -> Option<Compiled>
+/// An accepted code that begins with the expression's code and takes a value of this kind behind it: none where its
+/// value has another kind.
+fn compiled_as(alloc: Global, e: &Expr, kind: Kind) -> Option<Compiled>
     ensures { IfSome result (λ compiled. BeginsWith (tree_of e.now) compiled.count compiled.verified) }
 {
     let shape = no_shape(alloc);
@@ -139,14 +143,26 @@ fn compiled(alloc: Global, e: &Expr) -> Option<Compiled>
     };
     let mut pool = Pool::new(alloc);
     let block = compile_expr(alloc, e, &scope, &mut pool).ok()?;
-    if block.len() >= 65_535 {
+    if block.len() >= 65_534 {
         return None;
     }
     let count = block.len() as u64;
     let constants = constants_of(alloc, &pool).ok()?;
-    let code = code_around(alloc, shape, constants, block).ok()?;
+    let code = code_around(alloc, shape, constants, block, kind).ok()?;
     let verified = accepted(alloc, code)?;
     Some(Compiled { verified, count })
+}
+
+/// An accepted code that begins with the expression's code.
+fn compiled(alloc: Global, e: &Expr) -> Option<Compiled>
+    ensures { IfSome result (λ compiled. BeginsWith (tree_of e.now) compiled.count compiled.verified) }
+{
+    for kind in KINDS {
+        if let Some(compiled) = compiled_as(alloc, e, kind) {
+            return Some(compiled);
+        }
+    }
+    None
 }
 
 /// Runs an accepted code from its beginning on the checking machine, as far as a budget goes that it spends.

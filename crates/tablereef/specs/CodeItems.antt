@@ -9,3 +9,9 @@ pub use Rattle.code_items.specs.Legal
 pub use Rattle.code_items.specs.Pairs
 pub use Rattle.code_items.specs.Showing
 pub use Rattle.code_items.specs.States
+pub use Rattle.code_items.specs.declared.code.Code
+pub use Rattle.code_items.specs.declared.declared.Declared
+pub use Rattle.code_items.specs.declared.desk.AreaState
+pub use Rattle.code_items.specs.declared.instr.Instr
+pub use Rattle.code_items.specs.declared.state.State
+pub use Rattle.shape.specs.declared.whole.Shape

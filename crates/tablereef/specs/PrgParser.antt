@@ -12,3 +12,4 @@ pub use Rattle.prg_parser.specs.Marks
 pub use Rattle.prg_parser.specs.Verdict
 pub use Rattle.prg_expr.specs.Faults
 pub use Rattle.prg_line.specs.Saying
+pub use Rattle.prg_expr.specs.Tree

@@ -8,3 +8,5 @@ pub use Rattle.run_steps.specs.Run
 pub use Rattle.run_steps.specs.Safe
 pub use Rattle.run_steps.specs.Shapes
 pub use Rattle.run_steps.specs.World
+pub use Rattle.run_steps.specs.declared.ending.End
+pub use Rattle.run_steps.specs.declared.ending.Outcome

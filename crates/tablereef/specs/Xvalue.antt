@@ -10,3 +10,5 @@ pub use Rattle.xvalue.specs.Texts
 pub use Rattle.xvalue.specs.Laws
 pub use Rattle.xvalue.specs.Answers
 pub use Rattle.xvalue.specs.Calendar
+pub use Rattle.xvalue.specs.declared.kind.Kind
+pub use Rattle.xvalue.specs.declared.value.Value
