@@ -204,13 +204,9 @@ loaded_with : (a : Holds) (job whole : Job) (typed : List ℕ) (shape : Shape) (
     → IsWith job typed whole → Loaded a shape job.limit store → Loaded a shape whole.limit store
 loaded_with a job whole typed shape store w loaded = subst (λ n. Loaded a shape n store) (sym w.limit) loaded
 
-abbrev Completed : Holds → Job → List ℕ → RunnableCode → Outcome → List ℕ → StoreState → Type 0
-Completed a job typed code outcome rows tables =
-    IsCompleted a job typed (λ (shape : Shape) (store : StoreState) (of : Unit {0}). ⊤) code tt outcome rows tables
-
-accepted_with : (a : Holds) (job whole : Job) (typed : List ℕ) (code : RunnableCode) (outcome : Outcome)
+accepted_with : {B : Type 0} {IsOf : Shape → StoreState → B → Type 0} {baseline : B} (a : Holds) (job whole : Job) (typed : List ℕ) (code : RunnableCode) (outcome : Outcome)
     (rows : List ℕ) (tables : StoreState) (stamp : Stamp) → IsWith job typed whole → job.checked ≡ false
-    → Completed a job typed code outcome rows tables → stamp_of job.day ≡ Some stamp
+    → IsCompleted a job typed IsOf code baseline outcome rows tables → stamp_of job.day ≡ Some stamp
     → IsAccepted a whole (code_run code) outcome rows tables stamp
 accepted_with a job whole typed code outcome rows tables stamp w untested done stamped = record {
   accepted = accepted_of job.checked code done.may untested;
@@ -220,9 +216,9 @@ accepted_with a job whole typed code outcome rows tables stamp w untested done s
   stamped = ap stamp_of w.day ∙ stamped;
 }
 
-ran_with : (a b e : Holds) → SameFiles a b → (job whole : Job) (typed : List ℕ) (code : RunnableCode) (outcome : Outcome)
+ran_with : {B : Type 0} {IsOf : Shape → StoreState → B → Type 0} {baseline : B} (a b e : Holds) → SameFiles a b → (job whole : Job) (typed : List ℕ) (code : RunnableCode) (outcome : Outcome)
     (rows : List ℕ) (tables : StoreState) (ended : Ended) → IsWith job typed whole
-    → Completed a job typed code outcome rows tables → IsTold (code_run code).declared.shape outcome ended
+    → IsCompleted a job typed IsOf code baseline outcome rows tables → IsTold (code_run code).declared.shape outcome ended
     → (checked : Bool) → job.checked ≡ checked
     → MatchBool checked (SameFiles b e) (SavedAll b e job (code_run code).declared.shape tables)
     → MatchBool checked (IsTested a whole (code_run code) ended rows × SameFiles a e)
@@ -246,8 +242,8 @@ ran_with a b e same job whole typed code outcome rows tables ended w done told f
   saved = saved_same a b e same (code_run code).declared.shape tables saved.stamp _ saved.saved;
 }
 
-pub has_run : (a b e : Holds) → SameFiles a b → (job : Job) (typed : List ℕ) (code : RunnableCode) (outcome : Outcome)
-    (rows : List ℕ) (tables : StoreState) → Completed a job typed code outcome rows tables
+pub has_run : {B : Type 0} {IsOf : Shape → StoreState → B → Type 0} {baseline : B} (a b e : Holds) → SameFiles a b → (job : Job) (typed : List ℕ) (code : RunnableCode) (outcome : Outcome)
+    (rows : List ℕ) (tables : StoreState) → IsCompleted a job typed IsOf code baseline outcome rows tables
     → (result : Result Ended OperateRefusal) → IfOk result (IsTold (code_run code).declared.shape outcome)
     → OnOk result (MatchBool job.checked (SameFiles b e) (SavedAll b e job (code_run code).declared.shape tables))
     → IfOk result (λ ended. (whole : Job) → IsWith job typed whole → HasRun a e whole ended rows)
@@ -261,9 +257,9 @@ has_run a b e same job typed code outcome rows tables done (Ok ended) told saved
 }
 has_run a b e same job typed code outcome rows tables done (Err refusal) told saved = saved
 
-pub stopped_run : (a b e : Holds) → SameFiles a b → (f g h : ℕ) → f ≤ g → g ≤ h → (job : Job) (typed : List ℕ)
+pub stopped_run : {B : Type 0} {IsOf : Shape → StoreState → B → Type 0} {baseline : B} (a b e : Holds) → SameFiles a b → (f g h : ℕ) → f ≤ g → g ≤ h → (job : Job) (typed : List ℕ)
     (code : RunnableCode) (outcome : Outcome) (rows : List ℕ) (tables : StoreState)
-    → Completed a job typed code outcome rows tables → (result : Result Ended OperateRefusal)
+    → IsCompleted a job typed IsOf code baseline outcome rows tables → (result : Result Ended OperateRefusal)
     → OnErr result (job.checked ≡ false)
     → IfErr result (IsOfRun (SavedSome b e (Rose g h) job (code_run code).declared.shape tables))
     → IfErr result (λ refusal. (whole : Job) → IsWith job typed whole
