@@ -1,4 +1,5 @@
 pub mod Ran
+pub mod Results
 pub mod Same
 pub mod TestedParts
 pub mod Wholes

@@ -204,7 +204,8 @@ loaded_with : (a : Holds) (job whole : Job) (typed : List ℕ) (shape : Shape) (
     → IsWith job typed whole → Loaded a shape job.limit store → Loaded a shape whole.limit store
 loaded_with a job whole typed shape store w loaded = subst (λ n. Loaded a shape n store) (sym w.limit) loaded
 
-accepted_with : {B : Type 0} {IsOf : Shape → StoreState → B → Type 0} {baseline : B} (a : Holds) (job whole : Job) (typed : List ℕ) (code : RunnableCode) (outcome : Outcome)
+accepted_with : {B : Type 0} {IsOf : Shape → StoreState → B → Type 0} {baseline : B}
+    (a : Holds) (job whole : Job) (typed : List ℕ) (code : RunnableCode) (outcome : Outcome)
     (rows : List ℕ) (tables : StoreState) (stamp : Stamp) → IsWith job typed whole → job.checked ≡ false
     → IsCompleted a job typed IsOf code baseline outcome rows tables → stamp_of job.day ≡ Some stamp
     → IsAccepted a whole (code_run code) outcome rows tables stamp
@@ -216,7 +217,8 @@ accepted_with a job whole typed code outcome rows tables stamp w untested done s
   stamped = ap stamp_of w.day ∙ stamped;
 }
 
-ran_with : {B : Type 0} {IsOf : Shape → StoreState → B → Type 0} {baseline : B} (a b e : Holds) → SameFiles a b → (job whole : Job) (typed : List ℕ) (code : RunnableCode) (outcome : Outcome)
+ran_with : {B : Type 0} {IsOf : Shape → StoreState → B → Type 0} {baseline : B}
+    (a b e : Holds) → SameFiles a b → (job whole : Job) (typed : List ℕ) (code : RunnableCode) (outcome : Outcome)
     (rows : List ℕ) (tables : StoreState) (ended : Ended) → IsWith job typed whole
     → IsCompleted a job typed IsOf code baseline outcome rows tables → IsTold (code_run code).declared.shape outcome ended
     → (checked : Bool) → job.checked ≡ checked
@@ -242,7 +244,8 @@ ran_with a b e same job whole typed code outcome rows tables ended w done told f
   saved = saved_same a b e same (code_run code).declared.shape tables saved.stamp _ saved.saved;
 }
 
-pub has_run : {B : Type 0} {IsOf : Shape → StoreState → B → Type 0} {baseline : B} (a b e : Holds) → SameFiles a b → (job : Job) (typed : List ℕ) (code : RunnableCode) (outcome : Outcome)
+pub has_run : {B : Type 0} {IsOf : Shape → StoreState → B → Type 0} {baseline : B}
+    (a b e : Holds) → SameFiles a b → (job : Job) (typed : List ℕ) (code : RunnableCode) (outcome : Outcome)
     (rows : List ℕ) (tables : StoreState) → IsCompleted a job typed IsOf code baseline outcome rows tables
     → (result : Result Ended OperateRefusal) → IfOk result (IsTold (code_run code).declared.shape outcome)
     → OnOk result (MatchBool job.checked (SameFiles b e) (SavedAll b e job (code_run code).declared.shape tables))
@@ -257,7 +260,8 @@ has_run a b e same job typed code outcome rows tables done (Ok ended) told saved
 }
 has_run a b e same job typed code outcome rows tables done (Err refusal) told saved = saved
 
-pub stopped_run : {B : Type 0} {IsOf : Shape → StoreState → B → Type 0} {baseline : B} (a b e : Holds) → SameFiles a b → (f g h : ℕ) → f ≤ g → g ≤ h → (job : Job) (typed : List ℕ)
+pub stopped_run : {B : Type 0} {IsOf : Shape → StoreState → B → Type 0} {baseline : B}
+    (a b e : Holds) → SameFiles a b → (f g h : ℕ) → f ≤ g → g ≤ h → (job : Job) (typed : List ℕ)
     (code : RunnableCode) (outcome : Outcome) (rows : List ℕ) (tables : StoreState)
     → IsCompleted a job typed IsOf code baseline outcome rows tables → (result : Result Ended OperateRefusal)
     → OnErr result (job.checked ≡ false)
