@@ -4,7 +4,7 @@ use Rattle.std.proofs.Common.{None, sym, ap, ◌∙◌, add-one}
 use Rattle.std.proofs.Math.Seq.{drop-cons}
 use Rattle.prg_expr.specs.Tree.{tree_of}
 use Rattle.prg_expr.specs.declared.tree.Expr.{Expr}
-use Rattle.prg_parser.specs.Commands.{Cmd, Cases, Part, If, DoCase, Scan, Then, When, Otherwise}
+use Rattle.prg_parser.specs.Commands.{Cmd, Cases, Part, If, DoCase, DoWhile, Scan, Then, When, Otherwise}
 use Rattle.prg_parser.specs.Commands.{form_node, branch_node, case_node, command_node, form_command, command_of}
 use Rattle.prg_parser.specs.Commands.{case_of, branch_of, commands_of, cases_of, part_of}
 use Rattle.prg_parser.specs.declared.command.Branch.{Branch}
@@ -14,7 +14,7 @@ use Rattle.prg_parser.specs.declared.command.Form.{Form-F, fold-roll-Form}
 use Rattle.prg_parser.specs.declared.command.Form.TheFolds.{fold_out-Case, fold_out-Branch}
 use Rattle.prg_parser.specs.declared.command.Form.TheVariants as form
 use Rattle.prg_parser.specs.declared.command.Form.TheViews.{out-Case, out-Branch}
-use Rattle.prg_parser.specs.declared.command.Form.TheVariants.{rolls-If, rolls-DoCase, rolls-Scan}
+use Rattle.prg_parser.specs.declared.command.Form.TheVariants.{rolls-If, rolls-DoCase, rolls-DoWhile, rolls-Scan}
 
 pub form_if : (e : Expr) (then : Vec Command Global) (b : Option Branch) (end n : ℕ)
     → form_command (form.If e then b end) n ≡ If n (tree_of e) (commands_of then.items) (part_of b) end
@@ -36,6 +36,12 @@ form_do_case cases (Some b) end n =
     ap (λ f. form_command f n) (sym (rolls-DoCase cases (Some b) end))
     ∙ ap (λ f. f n) (fold-roll-Form (ℕ → Cmd) Part (Cases → Cases) Cmd form_node branch_node case_node command_node
     (Form-F.DoCase cases (Some b) end))
+
+pub form_do_while : (e : Expr) (body : Vec Command Global) (end n : ℕ)
+    → form_command (form.DoWhile e body end) n ≡ DoWhile n (tree_of e) (commands_of body.items) end
+form_do_while e body end n = ap (λ f. form_command f n) (sym (rolls-DoWhile e body end))
+    ∙ ap (λ f. f n) (fold-roll-Form (ℕ → Cmd) Part (Cases → Cases) Cmd form_node branch_node case_node command_node
+    (Form-F.DoWhile e body end))
 
 pub form_scan : (e : Option Expr) (body : Vec Command Global) (end n : ℕ)
     → form_command (form.Scan e body end) n ≡ Scan n (option_map tree_of e) (commands_of body.items) end

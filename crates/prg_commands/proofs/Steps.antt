@@ -1,6 +1,6 @@
 -- What was walked is laid out.
 use Rattle.std.proofs.Common.{◌≡◌, ℕ, suc, ◌+◌, ◌<◌, ◌≤◌, drop, get_or, length, List, [], ◌∷◌, Option, Some, None, Bool}
-use Rattle.std.proofs.Common.{true, false, nat_eq, sym, ap, ◌∙◌, subst, refl, arith, inl, inr, ◌⊎◌}
+use Rattle.std.proofs.Common.{Result, Ok, Err, IfOk, true, false, nat_eq, sym, ap, ◌∙◌, subst, refl, arith, inl, inr, ◌⊎◌}
 use Rattle.std.proofs.Math.Seq.{drop-cons}
 use Rattle.std.proofs.Math.Nat.{eq-or-lt_of_le}
 use Rattle.std.proofs.lemmas.Bool.Decides.{nat_tests}
@@ -20,7 +20,7 @@ use Rattle.prg_parser.specs.declared.command.Form.TheViews.{out-Case, out-Branch
 use Rattle.prg_values.specs.Placed.{InstrStands}
 use Rattle.prg_commands.specs.Acts.{ActLaid, is_none_waiting, may_follow_gets}
 use Rattle.prg_commands.specs.Walking.{Told, Leaves, Looked, Chains, ComesBack, TurnedBy, is_absent}
-use Rattle.prg_commands.specs.Commands.{Laid, LaidAll, LaidCases, LaidPart, chosen, cases, more, cut, done, when, otherwise}
+use Rattle.prg_commands.specs.Commands.{Laid, LaidAll, LaidCases, LaidPart, chosen, cases, more, cut, done, when, otherwise, absent}
 use Rattle.prg_commands.specs.Commands.{neither, then_way, either_way, through, stopped, Goes, Tests, Chooses, HasRow}
 use Rattle.prg_commands.specs.Commands.{does, loops, exits, ends, while, scan, is_last, waiting_behind, ends_run}
 use Rattle.prg_commands.specs.Commands.{loop_act, exit_act, Follows, Advances}
@@ -279,6 +279,10 @@ scan_laid f l a s r m p n end next top out b only_if cs w chooses is first row c
     scan first (subst (λ (x : ℕ). HasRow f s x r) o row) choose
     (subst (λ (x : ℕ). LaidAll f (Some (record { again = next; out = x })) [] m cs w p) o k) back'.0
     (subst (λ (x : ℕ). Advances f p (w.on || (w.again || is_some only_if)) x b) e back'.1)
+
+pub on_done : {A E : Type 0} {P Q : A → Type 0} (r : Result A E) → ((b : A) → P b → Q b) → IfOk r P → IfOk r Q
+on_done (Ok b) f h = f b h
+on_done (Err e) f h = tt
 
 pub is_some_map : {A B : Type 0} (f : A → B) (o : Option A) → is_some (Rattle.std.specs.Prelude.option_map f o) ≡ is_some o
 is_some_map f None = refl

@@ -95,12 +95,17 @@ pub(crate) fn leave_part<S: Sink>(
     Ok(Some(label))
 }
 
-/// The end of a choice is here.
-pub(crate) fn arrive<S: Sink>(sink: &mut S, end: Option<usize>) -> Result<(), CompileError>
-    ensures told { S.judges → OnOk result (walking.Told end (S.place sink.old)) }
+/// The end of a choice is here, in this line.
+pub(crate) fn arrive<S: Sink>(
+    sink: &mut S,
+    end: Option<usize>,
+    line: usize,
+) -> Result<(), CompileError>
+    ensures told { S.judges → OnOk result (walking.Told end (S.place sink.new)) }
     ensures place { S.judges → S.place sink.new ≡ S.place sink.old }
     ensures same { S.laying sink.new ≡ S.laying sink.old }
 {
+    sink.at(line);
     match end {
         Some(label) => sink.lead(label),
         None => Ok(()),
@@ -108,7 +113,7 @@ pub(crate) fn arrive<S: Sink>(sink: &mut S, end: Option<usize>) -> Result<(), Co
 }
 
 /// Goes on to the next row, where LOOP of a SCAN leads, and back to its test; nothing where this isn't reached.
-pub(crate) fn advance<S: Sink>(
+fn advance<S: Sink>(
     sink: &mut S,
     reached: bool,
     next: usize,
@@ -124,6 +129,28 @@ pub(crate) fn advance<S: Sink>(
     sink.lead(next)?;
     skip(sink, &None)?;
     sink.jump(top)
+}
+
+/// Whether the next row of a SCAN is reached: from the end of its commands, by LOOP, or past the condition of its FOR.
+fn is_next_row_reached(way: Way, chooses: bool) -> bool
+    ensures { result ≡ (way.on || (way.again || chooses)) }
+{
+    way.on || way.again || chooses
+}
+
+/// Ends the commands of a SCAN that have this way.
+pub(crate) fn come_back<S: Sink>(
+    sink: &mut S,
+    way: Way,
+    chooses: bool,
+    next: usize,
+    top: usize,
+) -> Result<(), CompileError>
+    ensures laid { S.judges → OnOk result (walking.ComesBack (S.laying sink.old) (S.place sink.old)
+        (way.on || (way.again || chooses)) next top (S.place sink.new)) }
+    ensures same { S.laying sink.new ≡ S.laying sink.old }
+{
+    advance(sink, is_next_row_reached(way, chooses), next, top)
 }
 
 /// LOOP. Limit where there is no loop around it.

@@ -13,7 +13,7 @@ ghost use Rattle.prg_parser.specs.Commands.{Single, If, DoCase, DoWhile, Scan, f
 ghost use Rattle.prg_parser.specs.Commands.{cases_of, part_of};
 ghost use Rattle.prg_values.specs.Placed.{InstrStands};
 
-use crate::control::{advance, arrive, choose_row, end_procedure, exit, give_up, go_to, leap};
+use crate::control::{arrive, choose_row, come_back, end_procedure, exit, give_up, go_to, leap};
 use crate::control::{leave_part, no_get_waits, plain, test, test_row, wait_on};
 use crate::moves::put_top;
 use crate::programs::parameters;
@@ -38,10 +38,8 @@ const WAY_BACK: usize = 3;
 
 /// What stands around commands.
 #[derive(Clone, Copy)]
-pub struct Around<'a> {
+pub struct Around {
     pub alloc: Global,
-    /// The command files.
-    pub programs: &'a [Program],
     /// How many lists of commands may stand within one another.
     pub levels: u16,
     /// Where LOOP and EXIT lead.
@@ -100,6 +98,7 @@ fn is_last(number: usize, count: usize, closed: bool) -> bool
 #[cycle(walk)]
 fn all<S: Sink>(
     sink: &mut S,
+    programs: &[Program],
     around: Around,
     end: Option<usize>,
     list: &[Command],
@@ -121,7 +120,7 @@ fn all<S: Sink>(
         if !way.on {
             return Ok(way);
         }
-        way = way.then(next(sink, inner, &mut gets, command)?);
+        way = way.then(next(sink, programs, inner, &mut gets, command)?);
     }
     let line = line_of_waiting(&gets, end);
     no_get_waits(sink, &mut gets, line)?;
@@ -132,6 +131,7 @@ fn all<S: Sink>(
 #[cycle(walk)]
 fn next<S: Sink>(
     sink: &mut S,
+    programs: &[Program],
     around: Around,
     gets: &mut Vec<Get>,
     command: &Command,
@@ -144,7 +144,7 @@ fn next<S: Sink>(
 {
     sink.at(command.line);
     sink.begin()?;
-    match one(sink, around, gets, command) {
+    match one(sink, programs, around, gets, command) {
         Ok(way) => {
             sink.end(true)?;
             wait_on(gets, command)?;
@@ -160,6 +160,7 @@ fn next<S: Sink>(
 #[cycle(walk)]
 fn one<S: Sink>(
     sink: &mut S,
+    programs: &[Program],
     around: Around,
     gets: &mut Vec<Get>,
     command: &Command,
@@ -170,15 +171,16 @@ fn one<S: Sink>(
     ensures same { S.laying sink.new ≡ S.laying sink.old }
 {
     if let Form::Statement(statement) = &command.form {
-        return single(sink, around, gets, command.line, statement);
+        return single(sink, programs, around, gets, command.line, statement);
     }
     no_get_waits(sink, gets, command.line)?;
-    block(sink, around, command.line, &command.form)
+    block(sink, programs, around, command.line, &command.form)
 }
 
 #[cycle(walk)]
 fn single<S: Sink>(
     sink: &mut S,
+    programs: &[Program],
     around: Around,
     gets: &mut Vec<Get>,
     line: usize,
@@ -193,12 +195,18 @@ fn single<S: Sink>(
         return plain(sink, gets, line, statement);
     };
     no_get_waits(sink, gets, line)?;
-    turned(sink, around, turn)
+    turned(sink, programs, around, turn)
 }
 
 /// Puts a command that turns the way.
 #[cycle(walk)]
-fn turned<S: Sink>(sink: &mut S, around: Around, turn: Turn) -> Result<Way, CompileError>
+#[tactic(auto, using(crate::proofs::Steps::return_laid, crate::proofs::Steps::end_laid))]
+fn turned<S: Sink>(
+    sink: &mut S,
+    programs: &[Program],
+    around: Around,
+    turn: Turn,
+) -> Result<Way, CompileError>
     ensures laid { S.judges → IfOk result (λ way. walking.TurnedBy (S.laying sink.old) around.leaps (S.place sink.old)
         turn.entry way (S.place sink.new)) }
     ensures same { S.laying sink.new ≡ S.laying sink.old }
@@ -215,7 +223,7 @@ fn turned<S: Sink>(sink: &mut S, around: Around, turn: Turn) -> Result<Way, Comp
             Ok(Way::stopped(false))
         }
         Turn::Call(procedure, arguments) => {
-            call(sink, around, procedure, arguments)?;
+            call(sink, programs, around, procedure, arguments)?;
             Ok(Way::through())
         }
     }
@@ -225,6 +233,7 @@ fn turned<S: Sink>(sink: &mut S, around: Around, turn: Turn) -> Result<Way, Comp
 #[cycle(walk)]
 fn call<S: Sink>(
     sink: &mut S,
+    programs: &[Program],
     around: Around,
     procedure: &Name,
     arguments: &[Expr],
@@ -232,11 +241,11 @@ fn call<S: Sink>(
     ensures never { S.judges → OnOk result ⊥ }
     ensures same { S.laying sink.new ≡ S.laying sink.old }
 {
-    let Some(target) = sink.open(around.programs, procedure, arguments)? else {
+    let Some(target) = sink.open(programs, procedure, arguments)? else {
         return Ok(());
     };
-    let (_, list) = parameters(target.commands(around.programs));
-    whole(sink, around, list, target.last_line(around.programs))?;
+    let (_, list) = parameters(target.commands(programs));
+    whole(sink, programs, around, list, target.last_line(programs))?;
     sink.close()
 }
 
@@ -244,6 +253,7 @@ fn call<S: Sink>(
 #[cycle(walk)]
 fn whole<S: Sink>(
     sink: &mut S,
+    programs: &[Program],
     around: Around,
     list: &[Command],
     last: usize,
@@ -256,13 +266,14 @@ fn whole<S: Sink>(
         leaps: None,
         ..around
     };
-    let way = all(sink, outermost, None, list)?;
+    let way = all(sink, programs, outermost, None, list)?;
     if way.on { end_procedure(sink, last) } else { Ok(()) }
 }
 
 #[cycle(walk)]
 fn block<S: Sink>(
     sink: &mut S,
+    programs: &[Program],
     around: Around,
     line: usize,
     form: &Form,
@@ -284,30 +295,32 @@ fn block<S: Sink>(
                 next: line_of(branch, *end),
                 end: *end,
             };
-            choose(sink, around, lines, condition, then, branch)
+            choose(sink, programs, around, lines, condition, then, branch)
         }
         Form::DoCase {
             cases,
             otherwise: branch,
             end,
-        } => decide(sink, around, *end, cases, branch),
+        } => decide(sink, programs, around, *end, cases, branch),
         Form::DoWhile {
             condition,
             body,
             end,
-        } => repeat(sink, around, *end, condition, body),
+        } => repeat(sink, programs, around, *end, condition, body),
         Form::Scan {
             condition,
             body,
             end,
-        } => scan(sink, around, *end, condition, body),
+        } => scan(sink, programs, around, *end, condition, body),
     }
 }
 
 /// A part of a choice, whose condition stands in front of it.
 #[cycle(walk)]
+#[tactic(auto, using(crate::proofs::Steps::looked))]
 fn part<S: Sink>(
     sink: &mut S,
+    programs: &[Program],
     around: Around,
     end: Option<usize>,
     lines: PartLines,
@@ -321,7 +334,7 @@ fn part<S: Sink>(
 {
     sink.at(lines.first);
     let out = test(sink, condition)?;
-    let way = all(sink, around, Some(lines.next), body)?;
+    let way = all(sink, programs, around, Some(lines.next), body)?;
     sink.at(lines.end);
     let end = leave_part(sink, end, last, way.on)?;
     sink.lead(out)?;
@@ -332,6 +345,7 @@ fn part<S: Sink>(
 #[cycle(walk)]
 fn otherwise<S: Sink>(
     sink: &mut S,
+    programs: &[Program],
     around: Around,
     end: Option<usize>,
     line: usize,
@@ -342,19 +356,25 @@ fn otherwise<S: Sink>(
         (part_of branch.now) way (S.place sink.new)) }
     ensures same { S.laying sink.new ≡ S.laying sink.old }
 {
-    let way = match branch {
-        Some(branch) => all(sink, around, Some(line), &branch.body)?,
-        None => Way::through(),
-    };
-    sink.at(line);
-    arrive(sink, end)?;
-    Ok(way)
+    match branch {
+        Some(branch) => {
+            let way = all(sink, programs, around, Some(line), &branch.body)?;
+            arrive(sink, end, line)?;
+            Ok(way)
+        }
+        None => {
+            arrive(sink, end, line)?;
+            Ok(Way::through())
+        }
+    }
 }
 
 /// IF.
 #[cycle(walk)]
+#[tactic(auto, using(crate::proofs::Steps::if_laid))]
 fn choose<S: Sink>(
     sink: &mut S,
+    programs: &[Program],
     around: Around,
     lines: PartLines,
     condition: &Expr,
@@ -366,8 +386,8 @@ fn choose<S: Sink>(
         (S.place sink.new)) }
     ensures same { S.laying sink.new ≡ S.laying sink.old }
 {
-    let part = part(sink, around, None, lines, condition, then, branch.is_none())?;
-    let other = otherwise(sink, around, part.end, lines.end, branch)?;
+    let part = part(sink, programs, around, None, lines, condition, then, branch.is_none())?;
+    let other = otherwise(sink, programs, around, part.end, lines.end, branch)?;
     Ok(part.way.or(other))
 }
 
@@ -375,6 +395,7 @@ fn choose<S: Sink>(
 #[cycle(walk)]
 fn decide<S: Sink>(
     sink: &mut S,
+    programs: &[Program],
     around: Around,
     end: usize,
     cases: &[Case],
@@ -389,8 +410,8 @@ fn decide<S: Sink>(
         next: line_of(branch, end),
         end,
     };
-    let part = chain(sink, around, behind, cases, branch.is_none())?;
-    let other = otherwise(sink, around, part.end, end, branch)?;
+    let part = chain(sink, programs, around, behind, cases, branch.is_none())?;
+    let other = otherwise(sink, programs, around, part.end, end, branch)?;
     Ok(part.way.or(other))
 }
 
@@ -398,6 +419,7 @@ fn decide<S: Sink>(
 #[cycle(walk)]
 fn chain<S: Sink>(
     sink: &mut S,
+    programs: &[Program],
     around: Around,
     behind: PartLines,
     cases: &[Case],
@@ -417,7 +439,7 @@ fn chain<S: Sink>(
             end: behind.end,
         };
         let last = is_last(number, count, closed);
-        let part = part(sink, around, end, lines, &case.condition, &case.body, last)?;
+        let part = part(sink, programs, around, end, lines, &case.condition, &case.body, last)?;
         end = part.end;
         way = way.or(part.way);
     }
@@ -426,8 +448,10 @@ fn chain<S: Sink>(
 
 /// A round of a DO WHILE whose head is here. Gives the label of the loop's end.
 #[cycle(walk)]
+#[tactic(auto, using(crate::proofs::Steps::while_laid))]
 fn round<S: Sink>(
     sink: &mut S,
+    programs: &[Program],
     around: Around,
     head: usize,
     end: usize,
@@ -444,7 +468,7 @@ fn round<S: Sink>(
         leaps: Some(Leaps { again: head, out }),
         ..around
     };
-    let way = all(sink, inside, Some(end), body)?;
+    let way = all(sink, programs, inside, Some(end), body)?;
     sink.at(end);
     go_to(sink, way.on, head)?;
     Ok(out)
@@ -454,6 +478,7 @@ fn round<S: Sink>(
 #[cycle(walk)]
 fn repeat<S: Sink>(
     sink: &mut S,
+    programs: &[Program],
     around: Around,
     end: usize,
     condition: &Expr,
@@ -465,7 +490,7 @@ fn repeat<S: Sink>(
 {
     let head = sink.mark()?;
     for _ in 0..ROUNDS {
-        let out = round(sink, around, head, end, condition, body)?;
+        let out = round(sink, programs, around, head, end, condition, body)?;
         if !sink.again(head)? {
             sink.lead(out)?;
             return Ok(Way::through());
@@ -476,8 +501,10 @@ fn repeat<S: Sink>(
 
 /// A round of a SCAN whose test is here. Gives the label of the loop's end.
 #[cycle(walk)]
+#[tactic(auto, using(crate::proofs::Steps::scan_laid, crate::proofs::Steps::is_some_map))]
 fn row_round<S: Sink>(
     sink: &mut S,
+    programs: &[Program],
     around: Around,
     top: usize,
     end: usize,
@@ -497,9 +524,9 @@ fn row_round<S: Sink>(
         leaps: Some(Leaps { again: next, out }),
         ..around
     };
-    let way = all(sink, inside, Some(end), body)?;
+    let way = all(sink, programs, inside, Some(end), body)?;
     sink.at(end);
-    advance(sink, way.on || way.again || only_if.is_some(), next, top)?;
+    come_back(sink, way, only_if.is_some(), next, top)?;
     Ok(out)
 }
 
@@ -507,6 +534,7 @@ fn row_round<S: Sink>(
 #[cycle(walk)]
 fn scan<S: Sink>(
     sink: &mut S,
+    programs: &[Program],
     around: Around,
     end: usize,
     only_if: &Option<Expr>,
@@ -520,7 +548,7 @@ fn scan<S: Sink>(
     put_top(sink)?;
     let top = sink.mark()?;
     for _ in 0..ROUNDS {
-        let out = row_round(sink, around, top, end, only_if, body)?;
+        let out = row_round(sink, programs, around, top, end, only_if, body)?;
         if !sink.again(top)? {
             sink.lead(out)?;
             return Ok(Way::through());
@@ -549,9 +577,8 @@ pub fn put_main<S: Sink>(
 {
     let around = Around {
         alloc,
-        programs,
         levels: LEVELS,
         leaps: None,
     };
-    whole(sink, around, list, last)
+    whole(sink, programs, around, list, last)
 }

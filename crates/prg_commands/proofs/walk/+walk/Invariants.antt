@@ -6,7 +6,7 @@ use Rattle.prg_commands.proofs.walk.+walk.Given as goal
 abbrev pub invariant-all-loop-command : goal.invariant-all-loop-command
 invariant-all-loop-command g l = record {
   same : g.S.Sink.laying l.sink ≡ g.S.Sink.laying l.fn.sink;
-  leads : g.S.Sink.judges → Leads (g.S.Sink.laying l.fn.sink) l.around.leaps (g.S.Sink.place l.fn.sink) l.list
+  leads : g.S.Sink.judges → Leads (g.S.Sink.laying l.fn.sink) l.fn.around.leaps (g.S.Sink.place l.fn.sink) l.list
       l.command-index (names_of l.gets.items) l.way (g.S.Sink.place l.sink);
 }
 
