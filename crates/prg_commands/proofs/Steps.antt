@@ -18,7 +18,7 @@ use Rattle.prg_parser.specs.declared.command.Case.{Case}
 use Rattle.prg_parser.specs.declared.command.Command.{Command}
 use Rattle.prg_parser.specs.declared.command.Form.TheViews.{out-Case, out-Branch}
 use Rattle.prg_values.specs.Placed.{InstrStands}
-use Rattle.prg_commands.specs.Acts.{ActLaid, is_none_waiting, may_follow_gets}
+use Rattle.prg_commands.specs.Acts.{ActLaid, may_follow_gets}
 use Rattle.prg_commands.specs.Walking.{Told, Leaves, Looked, Chains, ComesBack, TurnedBy, is_absent}
 use Rattle.prg_commands.specs.Commands.{Laid, LaidAll, LaidCases, LaidPart, chosen, cases, more, cut, done, when, otherwise, absent}
 use Rattle.prg_commands.specs.Commands.{neither, then_way, either_way, through, stopped, Goes, Tests, Chooses, HasRow}
@@ -26,8 +26,7 @@ use Rattle.prg_commands.specs.Commands.{does, loops, exits, ends, while, scan, i
 use Rattle.prg_commands.specs.Commands.{loop_act, exit_act, Follows, Advances}
 use Rattle.prg_commands.specs.Layout.{Laying}
 use Rattle.prg_commands.specs.Turns.{IsTurn}
-use Rattle.prg_commands.specs.declared.statement.Turn.{Turn}
-use Rattle.prg_commands.specs.declared.statement.Turn.TheVariants.{Again, Out, Return as Returns, End as Ends, Call}
+use Rattle.prg_commands.specs.declared.statement.Turn.TheVariants.{Return as Returns, End as Ends}
 use Rattle.prg_commands.specs.declared.walk.ChoicePart.{ChoicePart}
 use Rattle.prg_commands.specs.declared.way.Leaps.{Leaps}
 use Rattle.prg_commands.specs.declared.way.Way.{Way}

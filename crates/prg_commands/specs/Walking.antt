@@ -1,5 +1,5 @@
 -- What is known of a choice, or of a loop, while its parts are walked one after another.
-use Rattle.std.specs.Prelude.{◌≡◌, ℕ, Bool, ◌||◌, true, false, List, [], Option, Some, None}
+use Rattle.std.specs.Prelude.{◌≡◌, ℕ, Bool, true, false, List, [], Option, Some, None}
 use Rattle.prg_expr.specs.Tree.{Tree}
 use Rattle.prg_line.specs.Act.{Act}
 use Rattle.prg_parser.specs.Commands.{Cmds, Part, Single, Absent, Otherwise, cases_of}

@@ -29,7 +29,11 @@ pub(crate) fn demand(kind: Kind, wanted: Kind) -> Result<(), CompileError>
 }
 
 /// Puts the code of an expression of this kind.
-pub(crate) fn value_of_kind<S: Sink>(sink: &mut S, e: &Expr, wanted: Kind) -> Result<(), CompileError>
+pub(crate) fn value_of_kind<S: Sink>(
+    sink: &mut S,
+    e: &Expr,
+    wanted: Kind,
+) -> Result<(), CompileError>
     ensures laid { S.judges → OnOk result (ExprLaid (S.laying sink.old) (S.place sink.old) (tree_of e.now) wanted
         (S.place sink.new)) }
     ensures same { S.laying sink.new ≡ S.laying sink.old }

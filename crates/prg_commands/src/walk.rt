@@ -13,8 +13,10 @@ ghost use Rattle.prg_parser.specs.Commands.{Single, If, DoCase, DoWhile, Scan, f
 ghost use Rattle.prg_parser.specs.Commands.{cases_of, part_of};
 ghost use Rattle.prg_values.specs.Placed.{InstrStands};
 
-use crate::control::{arrive, choose_row, come_back, end_procedure, exit, give_up, go_to, leap};
-use crate::control::{leave_part, no_get_waits, plain, test, test_row, wait_on};
+use crate::control::{
+    arrive, choose_row, come_back, end_procedure, exit, give_up, go_to, leap, leave_part,
+    no_get_waits, plain, test, test_row, wait_on,
+};
 use crate::moves::put_top;
 use crate::programs::parameters;
 use crate::sink::Sink;
@@ -267,7 +269,11 @@ fn whole<S: Sink>(
         ..around
     };
     let way = all(sink, programs, outermost, None, list)?;
-    if way.on { end_procedure(sink, last) } else { Ok(()) }
+    if way.on {
+        end_procedure(sink, last)
+    } else {
+        Ok(())
+    }
 }
 
 #[cycle(walk)]
@@ -386,7 +392,16 @@ fn choose<S: Sink>(
         (S.place sink.new)) }
     ensures same { S.laying sink.new ≡ S.laying sink.old }
 {
-    let part = part(sink, programs, around, None, lines, condition, then, branch.is_none())?;
+    let part = part(
+        sink,
+        programs,
+        around,
+        None,
+        lines,
+        condition,
+        then,
+        branch.is_none(),
+    )?;
     let other = otherwise(sink, programs, around, part.end, lines.end, branch)?;
     Ok(part.way.or(other))
 }
@@ -439,7 +454,16 @@ fn chain<S: Sink>(
             end: behind.end,
         };
         let last = is_last(number, count, closed);
-        let part = part(sink, programs, around, end, lines, &case.condition, &case.body, last)?;
+        let part = part(
+            sink,
+            programs,
+            around,
+            end,
+            lines,
+            &case.condition,
+            &case.body,
+            last,
+        )?;
         end = part.end;
         way = way.or(part.way);
     }

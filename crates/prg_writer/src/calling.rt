@@ -35,11 +35,7 @@ fn file_named(programs: &[Program], name: &[u8]) -> Option<Target> {
 
 /// What `DO name` runs: the first PROCEDURE of that name in the files, in their order, else the first file of that
 /// name.
-fn target_named(
-    programs: &[Program],
-    w: &Writer,
-    name: &Name,
-) -> Result<Target, CompileFaultKind> {
+fn target_named(programs: &[Program], w: &Writer, name: &Name) -> Result<Target, CompileFaultKind> {
     if let Some(target) = w.procedures.named(name) {
         return Ok(target);
     }

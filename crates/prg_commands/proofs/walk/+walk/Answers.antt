@@ -1,11 +1,10 @@
-use Rattle.std.proofs.Common.{rules, [], ℕ, List, Option, sym, ap, ◌∙◌, subst, option_map, ◌+◌}
+use Rattle.std.proofs.Common.{rules, [], ℕ, List, sym, ap, ◌∙◌, subst, option_map, ◌+◌}
 use Rattle.prg_expr.specs.Tree.{tree_of}
 use Rattle.prg_parser.specs.Commands.{Cmd, If, DoCase, DoWhile, Scan, commands_of, cases_of, part_of}
 use Rattle.prg_parser.specs.Commands.{form_command, command_of}
-use Rattle.prg_parser.specs.declared.command.Branch.{Branch}
 use Rattle.prg_parser.specs.declared.command.Case.{Case}
 use Rattle.prg_parser.specs.declared.command.Command.{Command}
-use Rattle.prg_parser.specs.declared.command.Form.TheViews.{out-Case, out-Branch}
+use Rattle.prg_parser.specs.declared.command.Form.TheViews.{out-Case}
 use Rattle.prg_commands.specs.Acts.{names_of}
 use Rattle.prg_commands.specs.Commands.{Laid, LaidAll, LaidPart}
 use Rattle.prg_commands.specs.Layout.{Laying}
