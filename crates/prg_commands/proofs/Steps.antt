@@ -19,7 +19,7 @@ use Rattle.prg_parser.specs.declared.command.Command.{Command}
 use Rattle.prg_parser.specs.declared.command.Form.TheViews.{out-Case, out-Branch}
 use Rattle.prg_values.specs.Placed.{InstrStands}
 use Rattle.prg_commands.specs.Acts.{ActLaid, may_follow_gets}
-use Rattle.prg_commands.specs.Walking.{Told, Leaves, Looked, Chains, ComesBack, TurnedBy, is_absent}
+use Rattle.prg_commands.specs.Walking.{Told, Departs, Looked, Chains, ComesBack, TurnedBy, is_absent}
 use Rattle.prg_commands.specs.Commands.{Laid, LaidAll, LaidCases, LaidPart, chosen, cases, more, cut, done, when, otherwise, absent}
 use Rattle.prg_commands.specs.Commands.{neither, then_way, either_way, through, stopped, Goes, Tests, Chooses, HasRow}
 use Rattle.prg_commands.specs.Commands.{does, loops, exits, ends, while, scan, is_last, waiting_behind, ends_run}
@@ -184,14 +184,14 @@ last_is xs part i h = last_or xs part i (eq-or-lt_of_le (omega arith))
 -- a part that was walked
 pub looked : (f : Laying) (l : Option Leaps) (end : Option ℕ) (e : Tree) (a first behind out b : ℕ) (cs : Cmds)
     (last : Bool) (w : Way) (told : Option ℕ) → Tests f a e out first → LaidAll f l [] first cs w behind
-    → Leaves f end last behind w.on told b → out ≡ b
+    → Departs f end last behind w.on told b → out ≡ b
     → Looked f l end e a cs last (record { end = told; way = w }) b
 looked f l end e a first behind out b cs last w told h k leave is = record {
   first = first;
   behind = behind;
   tests = subst (λ (o : ℕ). Tests f a e o first) is h;
   body = k;
-  leaves = leave;
+  departs = leave;
 }
 
 -- a part before the others
@@ -200,7 +200,7 @@ when_looked : {f : Laying} {l : Option Leaps} {end : Option ℕ} {a n m b : ℕ}
     → last ≡ is_last rest part → Told p.end b → LaidCases f l m rest part w b
     → LaidCases f l a (When n e cs rest) part (either_way p.way w) b
 when_looked {f} {l} {end} {a} {n} {m} {b} {e} {cs} {last} {p} {rest} {part} {w} k is t others =
-    when k.tests k.body (subst (λ (x : Bool). Follows f x k.behind p.way.on b m) is (k.leaves b t).0) others
+    when k.tests k.body (subst (λ (x : Bool). Follows f x k.behind p.way.on b m) is (k.departs b t).0) others
 
 pub if_laid : (f : Laying) (l : Option Leaps) (a n end m b : ℕ) (e : Tree) (cs : Cmds) (branch : Option Branch)
     (last : Bool) (p : ChoicePart) (w : Way) → Looked f l None e a cs last p m → is_some branch ≡ not last
@@ -234,7 +234,7 @@ case_turn f l a xs i p m x u end made last closed low e lead k is part w z n t r
     let two = subst (λ (cs : Cases). LaidCases f l p cs part (either_way made.way w) z)
     (sym (next_case xs i x low e)) one in
     subst (λ (v : Way). LaidCases f l a (cases_of xs) part v z) (sym (either_assoc u made.way w))
-    (lead part (either_way made.way w) z n (k.leaves z t).1 two)
+    (lead part (either_way made.way w) z n (k.departs z t).1 two)
 
 -- no case is left
 pub cases_done : (f : Laying) (l : Option Leaps) (a : ℕ) (xs : List Case) (i p : ℕ) (u : Way) (end : Option ℕ)

@@ -26,8 +26,8 @@ Told None out = Unit {0}
 Told (Some end) out = end ≡ out
 
 -- a part of a choice goes on behind the choice, whose end is told as far as a JUMP tells it
-abbrev pub Leaves : Laying → Option ℕ → Bool → ℕ → Bool → Option ℕ → ℕ → Type 0
-Leaves f end last a on later b = (out : ℕ) → Told later out → Follows f last a on out b × Told end out
+abbrev pub Departs : Laying → Option ℕ → Bool → ℕ → Bool → Option ℕ → ℕ → Type 0
+Departs f end last a on later b = (out : ℕ) → Told later out → Follows f last a on out b × Told end out
 
 -- a part of a choice, whose condition stands in front of it
 pub record Looked (f : Laying) (l : Option Leaps) (end : Option ℕ) (e : Tree) (a : ℕ) (cs : Cmds) (last : Bool)
@@ -36,7 +36,7 @@ pub record Looked (f : Laying) (l : Option Leaps) (end : Option ℕ) (e : Tree) 
   pub behind : ℕ
   pub tests : Tests f a e b first
   pub body : LaidAll f l [] first cs p.way behind
-  pub leaves : Leaves f end last behind p.way.on p.end b
+  pub departs : Departs f end last behind p.way.on p.end b
 
 abbrev pub is_absent : Part → Bool
 is_absent Absent = true
