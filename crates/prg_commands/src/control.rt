@@ -84,8 +84,8 @@ pub(crate) fn leave_part<S: Sink>(
     last: bool,
     on: bool,
 ) -> Result<Option<usize>, CompileError>
-    ensures laid { S.judges → IfOk result (λ told. walking.Departs (S.laying sink.old) end last (S.place sink.old) on told
-        (S.place sink.new)) }
+    ensures laid { S.judges → IfOk result (λ told. walking.Departs (S.laying sink.old) end last (S.place sink.old) on
+        told (S.place sink.new)) }
     ensures same { S.laying sink.new ≡ S.laying sink.old }
 {
     if last || !on {
