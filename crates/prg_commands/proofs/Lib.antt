@@ -1,1 +1,4 @@
+pub mod Equations
 pub mod Indexes
+pub mod NamedBy
+pub mod Steps

@@ -4,7 +4,6 @@ ghost use Rattle.std.specs.Prelude.{◌≡◌, ◌≢◌, IfErr, IfOk, OnOk};
 ghost use Rattle.prg_code.specs.declared.fault.CompileError.TheVariants as error;
 ghost use Rattle.prg_code.specs.declared.fault.CompileFaultKind.TheVariants as fault;
 ghost use Rattle.prg_expr.specs.Tree.{tree_of};
-ghost use Rattle.xvalue.specs.declared.kind.Kind.TheVariants.{Logical};
 ghost use Rattle.prg_commands.specs.Acts as acts;
 ghost use Rattle.prg_commands.specs.Layout.{ExprLaid, Means};
 ghost use Rattle.prg_values.specs.Written.{whole_as_value};
@@ -30,22 +29,17 @@ pub(crate) fn demand(kind: Kind, wanted: Kind) -> Result<(), CompileError>
 }
 
 /// Puts the code of an expression of this kind.
-pub fn value_of_kind<S: Sink>(sink: &mut S, e: &Expr, wanted: Kind) -> Result<(), CompileError>
+pub(crate) fn value_of_kind<S: Sink>(
+    sink: &mut S,
+    e: &Expr,
+    wanted: Kind,
+) -> Result<(), CompileError>
     ensures laid { S.judges → OnOk result (ExprLaid (S.laying sink.old) (S.place sink.old) (tree_of e.now) wanted
         (S.place sink.new)) }
     ensures same { S.laying sink.new ≡ S.laying sink.old }
 {
     let kind = sink.value(e)?;
     demand(kind, wanted)
-}
-
-/// Puts the code of a condition.
-pub fn condition<S: Sink>(sink: &mut S, e: &Expr) -> Result<(), CompileError>
-    ensures laid { S.judges → OnOk result (ExprLaid (S.laying sink.old) (S.place sink.old) (tree_of e.now) Logical
-        (S.place sink.new)) }
-    ensures same { S.laying sink.new ≡ S.laying sink.old }
-{
-    value_of_kind(sink, e, Kind::Logical)
 }
 
 /// Puts the number 1.

@@ -3,7 +3,7 @@ use Rattle.std.specs.Prelude.{◌≡◌, List, [], ◌∷◌}
 use Rattle.code_items.specs.declared.code.Code.{Code}
 use Rattle.code_rules.specs.Rules.{Accepted}
 use Rattle.prg_code.specs.Bindings.{NamedVariables}
-use Rattle.prg_laid.specs.Commands.{IsLaid}
+use Rattle.prg_laid.specs.Whole.{IsLaid}
 use Rattle.prg_parser.specs.Commands.{commands_of}
 use Rattle.prg_parser.specs.declared.program.Program.{Program}
 use Rattle.shape.specs.declared.whole.Shape.{Shape}

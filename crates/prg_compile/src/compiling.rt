@@ -10,10 +10,10 @@ use code_items::{Code, Shape};
 use legal_code::LegalCode;
 use met_areas::MetAreas;
 use prg_code::{CompileFault, CompileFaultKind, CompileRefusal, DraftBlock, Names, Output, Work};
-use prg_control::{close_copy, commands, end_procedure};
+use prg_commands::{Target, put_main};
 use prg_laid::{LayoutFault, judge};
 use prg_parser::Program;
-use prg_writer::{FaultList, NamedProcedures, ProcedureCopy, Source, Target, Writer, assemble};
+use prg_writer::{FaultList, NamedProcedures, ProcedureCopy, Writer, assemble, close_copy};
 use std::alloc::{AllocError, Global};
 use xverify::{Verified, VerifyError, verify};
 
@@ -44,10 +44,12 @@ fn with_main<'a>(w: Writer<'a>) -> Result<Writer<'a>, AllocError> {
 
 /// Writes the main procedure, and with it all that it reaches. At a fault the writer stands at the faulty command.
 /// Faults are listed, where there is a list for them.
-fn write_main(w: &mut Writer, s: &Source) -> Result<(), CompileRefusal> {
-    let list = s.commands(MAIN);
-    commands(s, w, list)?;
-    end_procedure(w, s.last_line(MAIN))
+fn write_main(w: &mut Writer, programs: &[Program]) -> Result<(), CompileRefusal> {
+    let (list, last) = (MAIN.commands(programs), MAIN.last_line(programs));
+    match put_main(w, w.alloc, programs, list, last) {
+        Ok(()) => Ok(()),
+        Err(error) => Err(w.refused(error)),
+    }
 }
 
 /// All that is written, and the variables of the main procedure.
@@ -184,7 +186,7 @@ pub fn compile(
     ensures laid { IfOk result (λ verified. IsLaidAlone verified programs.now) }
 {
     let mut w = begun(alloc, programs, shape)?;
-    write_main(&mut w, &Source { programs, shape })?;
+    write_main(&mut w, programs)?;
     finished(alloc, all_written(w), programs, shape)
 }
 
@@ -205,12 +207,13 @@ fn told_first(
 /// The faults behind the one that `compile` tells.
 fn further(
     alloc: Global,
-    source: &Source,
+    programs: &[Program],
+    shape: &Shape,
     told: CompileFault,
 ) -> Result<Vec<CompileFault>, CompileRefusal> {
-    let mut w = begun(alloc, source.programs, source.shape)?;
+    let mut w = begun(alloc, programs, shape)?;
     w.listed = Some(FaultList::behind(alloc, told)?);
-    write_main(&mut w, source)?;
+    write_main(&mut w, programs)?;
     Ok(listed(w))
 }
 
@@ -228,12 +231,13 @@ fn listed(w: Writer) -> Vec<CompileFault>
 /// The fault that `compile` tells, and those behind it.
 fn all_faults(
     alloc: Global,
-    source: &Source,
+    programs: &[Program],
+    shape: &Shape,
     told: CompileFault,
 ) -> Result<Vec<CompileFault>, AllocError>
     ensures { IfOk result (λ faults. slice_get faults.items 0 ≡ Some told) }
 {
-    match further(alloc, source, told) {
+    match further(alloc, programs, shape, told) {
         Ok(others) => told_first(alloc, told, &others),
         Err(CompileRefusal::Fault(_)) => told_first(alloc, told, &[]),
         Err(CompileRefusal::NoMemory) => Err(AllocError),
@@ -260,7 +264,7 @@ pub fn find_faults(
 {
     match compile(alloc, programs, shape) {
         Ok(_verified) => Ok(Vec::new(alloc)),
-        Err(CompileRefusal::Fault(told)) => all_faults(alloc, &Source { programs, shape }, told),
+        Err(CompileRefusal::Fault(told)) => all_faults(alloc, programs, shape, told),
         Err(CompileRefusal::NoMemory) => Err(AllocError),
     }
 }
@@ -281,16 +285,20 @@ pub fn areas_at_fault(
     ensures told { IfOk result (λ found. IfSome found (AreasOfShape shape.now)) }
 {
     let mut w = begun(alloc, programs, shape)?;
-    areas_written_to(&mut w, &Source { programs, shape })
+    areas_written_to(&mut w, programs, shape)
 }
 
 /// The same of this writer, of which nothing is written yet.
-fn areas_written_to(w: &mut Writer, s: &Source) -> Result<Option<MetAreas>, AllocError>
-    ensures { IfOk result (λ found. IfSome found (AreasOfShape s.now.shape.now)) }
+fn areas_written_to(
+    w: &mut Writer,
+    programs: &[Program],
+    shape: &Shape,
+) -> Result<Option<MetAreas>, AllocError>
+    ensures { IfOk result (λ found. IfSome found (AreasOfShape shape.now)) }
 {
-    match write_main(w, s) {
+    match write_main(w, programs) {
         Ok(()) => Ok(None),
-        Err(CompileRefusal::Fault(fault)) => Ok(Some(areas_at(w, s.shape, fault.kind)?)),
+        Err(CompileRefusal::Fault(fault)) => Ok(Some(areas_at(w, shape, fault.kind)?)),
         Err(CompileRefusal::NoMemory) => Err(AllocError),
     }
 }

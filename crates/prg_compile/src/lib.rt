@@ -1,6 +1,6 @@
 //! The compiler of command files: from their trees to code that the verifier accepts.
 //!
-//! A copy of a procedure is written for each state and binding of names with which it is called (`prg_control`). At the
+//! A copy of a procedure is written for each state and binding of names with which it is called (`prg_writer`). At the
 //! end the code is laid out, judged and verified.
 #![tactic(auto)]
 

@@ -10,7 +10,8 @@ use Rattle.code_items.specs.declared.instr.Instr.{Instr}
 use Rattle.xvalue.specs.declared.value.Value.{Value}
 use Rattle.prg_code.specs.Bindings.{NamedVariables}
 use Rattle.prg_parser.specs.Commands.{Cmds}
-use Rattle.prg_laid.specs.Commands.{AreKnown, IsLaidWhole, laying_of}
+use Rattle.prg_commands.specs.Commands.{WholeLaid}
+use Rattle.prg_laid.specs.Whole.{AreKnown, laying_of}
 use Rattle.code_rules.specs.Places.{instr_at, block_at, or_state, map_at, start_of, state_entered, incoming_at}
 use Rattle.code_rules.specs.Places.{state_at}
 
@@ -56,30 +57,30 @@ none_known code place s e = absurd (let k = e in cc)
 pub whole_as : (code : Code) (names : NamedVariables) (is : List Instr) (vs : List Value) (known known' : List State)
     (filters filters' : List Block) (cs : Cmds) (n m : ℕ) → is ≡ code.instructions → vs ≡ code.declared.constants
     → known ≡ known' → filters ≡ filters' → n ≡ m
-    → IsLaidWhole (record {
+    → WholeLaid (record {
       text = record { instrs = is; constants = vs };
       declared = code.declared;
       names = names;
       known = known;
       filters = filters;
-    }) cs n → IsLaidWhole (laying_of code names known' filters') cs m
+    }) 0 cs n → WholeLaid (laying_of code names known' filters') 0 cs m
 whole_as code names is vs known known' filters filters' cs n m a b c d e h =
-    subst (λ (k : ℕ). IsLaidWhole (laying_of code names known' filters') cs k) e
-    (subst (λ (fs : List Block). IsLaidWhole (laying_of code names known' fs) cs n) d
-    (subst (λ (ss : List State). IsLaidWhole (laying_of code names ss filters) cs n) c
-    (subst (λ (ws : List Value). IsLaidWhole
+    subst (λ (k : ℕ). WholeLaid (laying_of code names known' filters') 0 cs k) e
+    (subst (λ (fs : List Block). WholeLaid (laying_of code names known' fs) 0 cs n) d
+    (subst (λ (ss : List State). WholeLaid (laying_of code names ss filters) 0 cs n) c
+    (subst (λ (ws : List Value). WholeLaid
     (record {
       text = record { instrs = code.instructions; constants = ws };
       declared = code.declared;
       names = names;
       known = known;
       filters = filters;
-    }) cs n) b
-    (subst (λ (js : List Instr). IsLaidWhole
+    }) 0 cs n) b
+    (subst (λ (js : List Instr). WholeLaid
     (record {
       text = record { instrs = js; constants = vs };
       declared = code.declared;
       names = names;
       known = known;
       filters = filters;
-    }) cs n) a h))))
+    }) 0 cs n) a h))))

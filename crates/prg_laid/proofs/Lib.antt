@@ -1,5 +1,3 @@
-pub mod Equations
 pub mod Finding
 pub mod Knowing
 pub mod Numbered
-pub mod Steps

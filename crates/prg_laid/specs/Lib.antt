@@ -1,4 +1,3 @@
 pub mod ByNumber
-pub mod Choices
-pub mod Commands
 pub mod Layout
+pub mod Whole

@@ -1,16 +1,20 @@
 //! The checker as a sink: a command's code is compared with what stands in a finished code.
 
-ghost use Rattle.std.specs.Prelude.{◌≡◌, true};
+ghost use Rattle.std.specs.Prelude.{◌≡◌, true, IfOk};
+ghost use Rattle.code_items.specs.declared.instr.FlowInstr.TheVariants.{Jump, JumpFalse};
+ghost use Rattle.code_items.specs.declared.instr.Instr.TheVariants.{Flow};
+ghost use Rattle.prg_values.specs.Placed.{InstrStands};
 ghost use Rattle.prg_commands.specs.Acts as acts;
 ghost use Rattle.prg_laid.specs.Layout.{laying, IsDeclaredList};
 
-use crate::fault::OTHERWISE;
+use crate::fault::{FoundLaid, OTHERWISE};
 use crate::filters::demand_filter;
-use crate::layout::{Layout, after, given, known, puts, scope_of};
-use code_items::{AreaInstr, Instr, Name, OpenArea, RecordInstr};
+use crate::layout::{Layout, after, given, given_as, known, puts, scope_of};
+use code_items::{AreaInstr, FlowInstr, Instr, Name, OpenArea, RecordInstr};
 use prg_code::{CompileError, ListedIndexes};
-use prg_commands::Sink;
+use prg_commands::{Sink, Target};
 use prg_expr::Expr;
+use prg_parser::Program;
 use prg_values::Scope;
 use xvalue::{Kind, Value};
 
@@ -74,6 +78,39 @@ fn filter_at(l: &Layout, place: usize) -> Option<u16> {
     }
 }
 
+/// A jump that stands in a code: where it leads, and the place behind it.
+#[derive(Clone, Copy)]
+struct FoundJump {
+    to: usize,
+    end: usize,
+}
+
+/// The JUMP at this place.
+fn jump_at(l: &Layout, place: usize) -> FoundLaid<FoundJump>
+    ensures { IfOk result (λ j. InstrStands (laying l.now).text place (Flow (Jump j.to)) j.end) }
+{
+    match l.text.instrs.get(place) {
+        Some(Instr::Flow(FlowInstr::Jump(there))) => Ok(FoundJump {
+            to: *there as usize,
+            end: place + 1,
+        }),
+        _ => Err(OTHERWISE),
+    }
+}
+
+/// The JUMPF at this place.
+fn fork_at(l: &Layout, place: usize) -> FoundLaid<FoundJump>
+    ensures { IfOk result (λ j. InstrStands (laying l.now).text place (Flow (JumpFalse j.to)) j.end) }
+{
+    match l.text.instrs.get(place) {
+        Some(Instr::Flow(FlowInstr::JumpFalse(there))) => Ok(FoundJump {
+            to: *there as usize,
+            end: place + 1,
+        }),
+        _ => Err(OTHERWISE),
+    }
+}
+
 impl Sink for Checker<'_> {
     ghost use Rattle.prg_laid.specs.Layout.{laying as laying_of_layout};
 
@@ -131,5 +168,98 @@ impl Sink for Checker<'_> {
 
     fn meets_filter(&self, _area: OpenArea) -> bool {
         true
+    }
+
+    fn at(&mut self, _line: usize) {}
+
+    fn truth(&mut self, e: &Expr) -> Result<(), CompileError> {
+        self.place = given_as(&self.layout, self.place, e, Kind::Logical)?;
+        Ok(())
+    }
+
+    fn fork(&mut self) -> Result<usize, CompileError> {
+        let fork = fork_at(&self.layout, self.place)?;
+        self.place = fork.end;
+        Ok(fork.to)
+    }
+
+    fn fork_to(&mut self, label: usize) -> Result<(), CompileError> {
+        let fork = fork_at(&self.layout, self.place)?;
+        if fork.to != label {
+            return Err(OTHERWISE);
+        }
+        self.place = fork.end;
+        Ok(())
+    }
+
+    fn jump(&mut self, label: usize) -> Result<(), CompileError> {
+        let jump = jump_at(&self.layout, self.place)?;
+        if jump.to != label {
+            return Err(OTHERWISE);
+        }
+        self.place = jump.end;
+        Ok(())
+    }
+
+    fn leave(&mut self, end: Option<usize>) -> Result<usize, CompileError> {
+        let jump = jump_at(&self.layout, self.place)?;
+        self.place = jump.end;
+        match end {
+            Some(end) if end != jump.to => Err(OTHERWISE),
+            _ => Ok(jump.to),
+        }
+    }
+
+    fn before(&mut self, label: usize, count: usize) -> Result<usize, CompileError> {
+        Ok(label.saturating_sub(count))
+    }
+
+    fn lead(&mut self, label: usize) -> Result<(), CompileError> {
+        if label == self.place {
+            Ok(())
+        } else {
+            Err(OTHERWISE)
+        }
+    }
+
+    fn mark(&mut self) -> Result<usize, CompileError> {
+        Ok(self.place)
+    }
+
+    fn again(&mut self, _label: usize) -> Result<bool, CompileError> {
+        Ok(false)
+    }
+
+    fn quit(&mut self) -> Result<(), CompileError> {
+        self.put(Instr::Flow(FlowInstr::End))
+    }
+
+    fn give_back(&mut self) -> Result<(), CompileError> {
+        self.put(Instr::Flow(FlowInstr::End))
+    }
+
+    fn note(&mut self, error: CompileError) -> Result<(), CompileError> {
+        Err(error)
+    }
+
+    fn begin(&mut self) -> Result<(), CompileError> {
+        Ok(())
+    }
+
+    fn end(&mut self, _kept: bool) -> Result<(), CompileError> {
+        Ok(())
+    }
+
+    fn open(
+        &mut self,
+        _programs: &[Program],
+        _procedure: &Name,
+        _arguments: &[Expr],
+    ) -> Result<Option<Target>, CompileError> {
+        Err(OTHERWISE)
+    }
+
+    fn close(&mut self) -> Result<(), CompileError> {
+        Ok(())
     }
 }

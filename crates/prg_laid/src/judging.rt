@@ -5,15 +5,15 @@ ghost use Rattle.std.specs.List.{list_any};
 ghost use Rattle.code_items.specs.Legal.{IsCode};
 ghost use Rattle.code_rules.specs.Places.{instr_at, state_at, incoming_at, or_state, block_at as block_at_of};
 ghost use Rattle.code_rules.specs.Places.{map_at as map_at_of};
-ghost use Rattle.prg_laid.specs.Commands as spec;
+ghost use Rattle.prg_laid.specs.Whole as spec;
 ghost use Rattle.prg_laid.specs.Layout.{laying};
+ghost use Rattle.prg_commands.specs.Commands.{WholeLaid};
 ghost use Rattle.prg_parser.specs.Commands.{commands_of};
 
-use crate::control::way_of;
+use crate::checker::Checker;
 use crate::fault::{FoundLaid, LayoutFault, OTHERWISE};
 use crate::known::KnownStates;
-use crate::layout::{Layout, after};
-use crate::way::Way;
+use crate::layout::Layout;
 use code_items::code::places_of_blocks;
 use code_items::laws::legal_codes;
 use code_items::{Code, FlowInstr, Instr, Proc, State};
@@ -21,6 +21,7 @@ use code_rules::blocks::{Block, block_at, map_at, start_of};
 use code_rules::flow::flow;
 use legal_code::LegalCode;
 use prg_code::{Names, Variable};
+use prg_commands::put_main;
 use prg_parser::Command;
 use prg_values::Finished;
 use std::alloc::{AllocError, Global};
@@ -133,22 +134,15 @@ fn do_slots_differ(variables: &[Variable]) -> bool
     true
 }
 
-/// The place behind the way, with END where its end is reached.
-fn closed(l: &Layout, way: Way) -> FoundLaid<usize>
-    ensures { IfOk result (spec.Closes (laying l.now) way.place way.on) }
-{
-    if way.on {
-        after(l, way.place, Instr::Flow(FlowInstr::End))
-    } else {
-        Ok(way.place)
-    }
-}
-
 fn is_whole(l: &Layout, list: &[Command], length: usize) -> FoundLaid<()>
-    ensures { IfOk result (λ _. spec.IsLaidWhole (laying l.now) (commands_of list.now) length) }
+    ensures { IfOk result (λ _. WholeLaid (laying l.now) 0 (commands_of list.now) length) }
 {
-    let way = way_of(l, list)?;
-    if closed(l, way)? == length {
+    let mut checker = Checker {
+        layout: *l,
+        place: 0,
+    };
+    put_main(&mut checker, l.alloc, &[], list, 0)?;
+    if checker.place == length {
         Ok(())
     } else {
         Err(OTHERWISE)

@@ -3,13 +3,11 @@
 #![tactic(auto)]
 
 mod checker;
-mod control;
 mod fault;
 mod filters;
 mod judging;
 mod known;
 mod layout;
-mod way;
 
 pub use crate::fault::LayoutFault;
 pub use crate::judging::judge;

@@ -2,7 +2,7 @@
 use Rattle.std.proofs.Common.{◌≡◌, false, true≢false, if◌then◌else◌, is_some, [], ◌∷◌, ◌++◌, Option, Some, None, ap}
 use Rattle.std.proofs.Common.{sym, refl, ◌∙◌, ℕ}
 use Rattle.arrayvec.specs.ArrayVec.{ArrayVec}
-use Rattle.prg_writer.specs.declared.writer.Target.{Target}
+use Rattle.prg_commands.specs.declared.programs.Target.{Target}
 use Rattle.prg_writer.specs.Targets.{NamedTargets, target_named, with_target}
 
 pub none_from : {A : Type 0} (o : Option A) → is_some o ≡ false → o ≡ None

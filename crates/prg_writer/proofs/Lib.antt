@@ -1,4 +1,4 @@
 mod Adding
 mod FaultLines
 mod GivingUp
-mod NamedBy
+mod Naming

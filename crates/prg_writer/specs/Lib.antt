@@ -1,4 +1,5 @@
 pub mod Arguments
 pub mod Faults
+pub mod Naming
 pub mod Targets
 pub mod Writing

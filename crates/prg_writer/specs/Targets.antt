@@ -5,7 +5,7 @@ use Rattle.std.specs.Str.{bytes_eq}
 use Rattle.arrayvec.specs.ArrayVec.{ArrayVec}
 use Rattle.prg_parser.specs.declared.program.Procedure.{Procedure}
 use Rattle.prg_parser.specs.declared.program.Program.{Program}
-use Rattle.prg_writer.specs.declared.writer.Target.{Target}
+use Rattle.prg_commands.specs.declared.programs.Target.{Target}
 
 -- names, and the procedures that they name
 abbrev pub NamedTargets : Type 0

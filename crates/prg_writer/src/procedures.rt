@@ -3,8 +3,8 @@
 ghost use Rattle.std.specs.Prelude.{◌≡◌, [], IfOk, OnOk};
 ghost use Rattle.prg_writer.specs.Targets.{target_named, with_target, targets_of_file, targets_of_files};
 
-use crate::writer::Target;
 use indexmap::IndexMap;
+use prg_commands::Target;
 use prg_parser::{Name, Procedure, Program};
 use shape::copy_of_name;
 use std::alloc::{AllocError, Global};

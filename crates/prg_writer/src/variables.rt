@@ -16,7 +16,7 @@ use prg_values::{Scope, selected_field, variable_slot};
 const MOST_SLOTS: u16 = 256;
 
 /// A slot that wasn't given out before. Limit where there is none.
-pub fn new_slot(out: &mut Output) -> Result<u8, CompileError>
+pub(crate) fn new_slot(out: &mut Output) -> Result<u8, CompileError>
     ensures next { IfOk result (λ slot. slot ≡ out.old.slots) }
     ensures given { OnOk result (out.new.slots ≡ out.old.slots + 1) }
 {
@@ -52,7 +52,7 @@ impl Writer<'_> {
 /// The slot of an argument that is handed over by reference: a name alone that is no field, or one behind `M->`. None
 /// of any other expression, which is handed over by value.
 #[tactic(auto, using(prg_expr::proofs::Equations::tree_equations))]
-pub fn argument_slot(w: &Writer, e: &Expr) -> Result<Option<u8>, CompileFaultKind>
+pub(crate) fn argument_slot(w: &Writer, e: &Expr) -> Result<Option<u8>, CompileFaultKind>
     ensures { FindsReading result (by_reference (scope_at w.now) (tree_of e.now)) }
 {
     let scope = w.scope_here();

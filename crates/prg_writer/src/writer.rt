@@ -1,43 +1,23 @@
 //! The copies of procedures that are written, and how a round of a loop is given up.
 
-ghost use Rattle.std.specs.Prelude.{◌≡◌, [], ◌∷◌, ◌++◌, None, Ok, Err, false, is_some, map, option_map, take};
-ghost use Rattle.std.specs.Prelude.{IfOk, IfErr, IfSome, OnOk, MatchResult};
+ghost use Rattle.std.specs.Prelude.{◌≡◌, [], ◌∷◌, ◌++◌, None, Err, true, false, take, IfOk, OnOk};
 ghost use Rattle.prg_code.specs.Parts.{told_at};
 ghost use Rattle.prg_code.specs.declared.fault.CompileError.TheVariants as error;
-ghost use Rattle.prg_code.specs.declared.fault.CompileRefusal.TheVariants as refusal;
-ghost use Rattle.prg_line.specs.Act.{act_of, letters_of};
-ghost use Rattle.prg_parser.specs.Commands.{command_of};
-ghost use Rattle.prg_writer.specs.Writing.{commands_in, last_line_in, AreParameters};
-ghost use Rattle.prg_writer.specs.Writing.{parameters_said as said, parameters_named as named};
 ghost use Rattle.prg_writer.specs.Writing.{IsMark, IsBegun, IsBackAt, IsOpened};
 
+use crate::calling::OpenCopy;
 use crate::fault_list::FaultList;
 use crate::heads::LoopHead;
+use crate::loops::OpenLoop;
 use crate::procedures::NamedProcedures;
 use code_items::State;
 use prg_code::{
     CompileError, CompileFault, CompileFaultKind, CompileRefusal, DraftBlock, Names, Output, Work,
 };
-use prg_line::Statement;
-use prg_parser::{Command, Form, Program};
+use prg_commands::Target;
 use shape::Shape;
 use std::alloc::{AllocError, Global};
 use std::mem;
-
-/// What is compiled.
-#[derive(Clone, Copy)]
-pub struct Source<'a> {
-    pub programs: &'a [Program],
-    pub shape: &'a Shape,
-}
-
-/// A procedure by the number of its command file, and by its own number there, each from 0; or the part of the file
-/// before its first PROCEDURE.
-#[derive(Clone, Copy, PartialEq, Eq)]
-pub struct Target {
-    pub file: usize,
-    pub procedure: Option<usize>,
-}
 
 /// A copy of a procedure that is written.
 #[derive(Drop)]
@@ -71,8 +51,14 @@ pub struct Writer<'a> {
     pub procedures: NamedProcedures,
     /// The procedures that are being written, from the main one on.
     pub active: Vec<Target>,
+    /// The copies that are being written where they are called first, but the main procedure.
+    pub calls: Vec<OpenCopy>,
+    /// The loops that are being written.
+    pub loops: Vec<OpenLoop>,
     /// What held at the heads of loops.
     pub heads: Vec<LoopHead>,
+    /// What stood before the commands that are being written, where faults are listed.
+    pub begun: Vec<Begun>,
     /// Where faults are listed and the writing goes on behind them; none where the first fault ends the writing.
     pub listed: Option<FaultList>,
 }
@@ -82,7 +68,7 @@ pub struct Writer<'a> {
 pub struct Begun {
     mark: WrittenMark,
     state: State,
-    gets: usize,
+    loops: usize,
 }
 
 /// How much was written at some time.
@@ -109,77 +95,6 @@ pub fn copy_of_state(alloc: Global, state: &Option<State>) -> Result<Option<Stat
     match state {
         Some(state) => Ok(Some(state.copied(alloc)?)),
         None => Ok(None),
-    }
-}
-
-impl Source<'_> {
-    /// The commands of a procedure; none where it isn't there.
-    pub fn commands(&self, target: Target) -> &[Command]
-        ensures { result.now ≡ commands_in self.now.programs.now target }
-    {
-        match self.programs.get(target.file) {
-            Some(program) => match target.procedure {
-                Some(number) => match program.procedures.get(number) {
-                    Some(procedure) => procedure.body.as_slice(),
-                    None => &[],
-                },
-                None => program.main.as_slice(),
-            },
-            None => &[],
-        }
-    }
-
-    /// The line of a procedure's last command; of one without commands, that of its PROCEDURE, or the file's first.
-    pub fn last_line(&self, target: Target) -> usize
-        ensures { result ≡ last_line_in self.now.programs.now target }
-    {
-        if let Some(command) = self.commands(target).last() {
-            return command.line;
-        }
-        let Some(program) = self.programs.get(target.file) else {
-            return 1;
-        };
-        match target.procedure {
-            Some(number) => match program.procedures.get(number) {
-                Some(procedure) => procedure.line,
-                None => 1,
-            },
-            None => 1,
-        }
-    }
-}
-
-/// The parameters that PARAMETERS names; None of another command.
-fn parameters_said(statement: &Statement) -> Option<&[prg_parser::Name]>
-    ensures { option_map (λ names. map letters_of names.now) result ≡ said (act_of statement.now) }
-{
-    match statement {
-        Statement::Parameters { variables } => Some(variables.as_slice()),
-        _ => None,
-    }
-}
-
-/// The parameters that the command names, if it is PARAMETERS.
-#[tactic(auto, using(crate::proofs::NamedBy::forms))]
-fn parameters_named(command: &Command) -> Option<&[prg_parser::Name]>
-    ensures { option_map (λ names. map letters_of names.now) result ≡ named (command_of command.now) }
-{
-    match &command.form {
-        Form::Statement(statement) => parameters_said(statement),
-        _ => None,
-    }
-}
-
-/// The parameters that a procedure's first command names, and the commands behind it.
-pub fn parameters(commands: &[Command]) -> (&[prg_parser::Name], &[Command])
-    ensures { AreParameters commands.now result.0.now result.1.now }
-{
-    let Some((first, others)) = commands.split_first() else {
-        return (&[], commands);
-    };
-    match parameters_named(first) {
-        Some(names) => (names, others),
-        None => (&[], commands),
     }
 }
 
@@ -234,51 +149,64 @@ impl<'a> Writer<'a> {
         Ok(())
     }
 
-    /// The refusal of a command in this line.
-    pub fn refused(&self, line: usize, error: CompileError) -> CompileRefusal
-        ensures { result ≡ told_at error self.now.work.file line }
+    /// The refusal of the command whose code is being put.
+    pub fn refused(&self, error: CompileError) -> CompileRefusal
+        ensures { result ≡ told_at error self.now.work.file self.now.work.block.line }
     {
-        error.at(self.work.file, line)
+        error.at(self.work.file, self.work.block.line)
     }
 
-    /// The refusal of a faulty command in this line.
-    pub fn faulty(&self, line: usize, kind: CompileFaultKind) -> CompileRefusal
-        ensures { result ≡ told_at (error.Fault kind) self.now.work.file line }
-    {
-        CompileError::Fault(kind).at(self.work.file, line)
+    /// The label stands here. Merge where different work areas are selected on the ways that meet here.
+    pub(crate) fn place(&mut self, label: usize) -> Result<(), CompileError> {
+        let outcome = self.work.block.place(label);
+        self.passed(outcome)
     }
 
-    /// The same answer, with the line of the command where it is an error.
-    pub fn told<T: Drop>(
-        &self,
-        line: usize,
-        outcome: Result<T, CompileError>,
-    ) -> Result<T, CompileRefusal>
-        ensures { MatchResult outcome (λ answer. result ≡ Ok answer)
-            (λ e. result ≡ Err (told_at e self.now.work.file line)) }
+    /// What stands before a command.
+    fn stands(&self) -> Result<Begun, AllocError>
+        ensures { IfOk result (IsBegun self.now) }
     {
-        match outcome {
-            Ok(answer) => Ok(answer),
-            Err(error) => Err(self.refused(line, error)),
-        }
-    }
-
-    /// What stands before a command, where faults are listed.
-    pub fn begun(&self) -> Result<Option<Begun>, AllocError>
-        ensures there { IfOk result (λ begun. is_some begun ≡ is_some self.now.listed) }
-        ensures begun { IfOk result (λ begun. IfSome begun (IsBegun self.now)) }
-    {
-        if self.listed.is_none() {
-            return Ok(None);
-        }
-        let gets = self.work.gets.len();
         let state = self.work.block.state.copied(self.alloc)?;
         let mark = self.mark()?;
-        Ok(Some(Begun { mark, state, gets }))
+        Ok(Begun {
+            mark,
+            state,
+            loops: self.loops.len(),
+        })
     }
 
-    /// Lists the fault, where faults are listed, and goes on; else it is the refusal.
-    pub fn passed(&mut self, outcome: Result<(), CompileRefusal>) -> Result<(), CompileRefusal>
+    /// A command begins, which may be given up where faults are listed.
+    pub(crate) fn begin_command(&mut self) -> Result<(), AllocError>
+        ensures none { self.old.listed ≡ None → self.new ≡ self.old }
+        // Nothing is written.
+        ensures same { self.new ≡ record self.old { begun = self.new.begun } }
+    {
+        if self.listed.is_some() {
+            let begun = self.stands()?;
+            self.begun.push(begun)?;
+        }
+        Ok(())
+    }
+
+    /// The command that began last ends. Where faults are listed, nothing of it stays unless it is kept.
+    pub(crate) fn end_command(&mut self, kept: bool) -> Result<(), AllocError>
+        ensures kept { kept ≡ true → self.new ≡ record self.old { begun = self.new.begun } }
+    {
+        match self.begun.pop() {
+            Some(begun) if !kept => self.give_up_command(&begun),
+            _ => Ok(()),
+        }
+    }
+
+    /// Goes on as if nothing of a command were written since it was begun.
+    fn give_up_command(&mut self, begun: &Begun) -> Result<(), AllocError> {
+        self.give_up(&begun.mark, &begun.state)?;
+        self.loops.truncate(begun.loops);
+        Ok(())
+    }
+
+    /// Lists the fault, where faults are listed, and goes on; else it is the answer.
+    pub(crate) fn passed(&mut self, outcome: Result<(), CompileError>) -> Result<(), CompileError>
         ensures ok { OnOk outcome (result ≡ outcome) }
         ensures told { self.old.listed ≡ None → result ≡ outcome }
         // Nothing is written.
@@ -286,40 +214,24 @@ impl<'a> Writer<'a> {
     {
         match outcome {
             Ok(()) => Ok(()),
-            Err(CompileRefusal::NoMemory) => Err(CompileRefusal::NoMemory),
-            Err(CompileRefusal::Fault(fault)) => self.list(fault),
+            Err(CompileError::NoMemory) => Err(CompileError::NoMemory),
+            Err(CompileError::Fault(kind)) => self.list(kind),
         }
     }
 
-    fn list(&mut self, fault: CompileFault) -> Result<(), CompileRefusal>
-        ensures told { self.old.listed ≡ None → result ≡ Err (refusal.Fault fault) }
+    fn list(&mut self, kind: CompileFaultKind) -> Result<(), CompileError>
+        ensures told { self.old.listed ≡ None → result ≡ Err (error.Fault kind) }
         ensures same { self.new ≡ record self.old { listed = self.new.listed } }
     {
+        let fault = CompileFault {
+            file: self.work.file,
+            line: self.work.block.line,
+            kind,
+        };
         match &mut self.listed {
             Some(list) => Ok(list.note(fault)?),
-            None => Err(CompileRefusal::Fault(fault)),
+            None => Err(CompileError::Fault(kind)),
         }
-    }
-
-    /// Lists the fault of a command, where faults are listed, and goes on as if nothing of it were written since it was
-    /// begun; else the fault is the refusal. Gives whether the command was given up.
-    pub fn gave_up(
-        &mut self,
-        begun: &Option<Begun>,
-        outcome: Result<(), CompileRefusal>,
-    ) -> Result<bool, CompileRefusal>
-        ensures ok { OnOk outcome ((result ≡ Ok false) × (self.new ≡ self.old)) }
-        ensures told { self.old.listed ≡ None → IfErr outcome (λ e. result ≡ Err e) }
-    {
-        if outcome.is_ok() {
-            return Ok(false);
-        }
-        self.passed(outcome)?;
-        if let Some(begun) = begun {
-            self.give_up(&begun.mark, &begun.state)?;
-            self.work.gets.truncate(begun.gets);
-        }
-        Ok(true)
     }
 
     /// Begins a copy of which nothing is written yet, with these names and what is known here.
@@ -364,7 +276,10 @@ impl<'a> Writer<'a> {
         ensures copies { result.copies.items ≡ [] }
         ensures procedures { result.procedures ≡ procedures }
         ensures active { result.active.items ≡ [] }
+        ensures calls { result.calls.items ≡ [] }
+        ensures loops { result.loops.items ≡ [] }
         ensures heads { result.heads.items ≡ [] }
+        ensures begun { result.begun.items ≡ [] }
         ensures listed { result.listed ≡ None }
     {
         Writer {
@@ -375,7 +290,10 @@ impl<'a> Writer<'a> {
             copies: Vec::new(alloc),
             procedures,
             active: Vec::new(alloc),
+            calls: Vec::new(alloc),
+            loops: Vec::new(alloc),
             heads: Vec::new(alloc),
+            begun: Vec::new(alloc),
             listed: None,
         }
     }

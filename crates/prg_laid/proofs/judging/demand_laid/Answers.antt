@@ -1,7 +1,7 @@
 use Rattle.std.proofs.Common.{refl, rules, subst}
 use Rattle.code_items.specs.declared.code.Code.{Code}
 use Rattle.prg_parser.specs.Commands.{commands_of}
-use Rattle.prg_laid.specs.Commands.{IsLaid}
+use Rattle.prg_laid.specs.Whole.{IsLaid}
 use Rattle.prg_laid.proofs.Finding.{on_done}
 use Rattle.prg_laid.proofs.Knowing.{whole_as}
 use Rattle.prg_laid.proofs.judging.demand_laid.Goals as goal

@@ -1,5 +1,5 @@
 use Rattle.std.proofs.Common.{◌≡◌, length}
-use Rattle.prg_laid.specs.Commands.{slots_differ}
+use Rattle.prg_laid.specs.Whole.{slots_differ}
 use Rattle.prg_laid.proofs.judging.do_slots_differ.Given as goal
 
 abbrev pub invariant-loop-variable : goal.invariant-loop-variable

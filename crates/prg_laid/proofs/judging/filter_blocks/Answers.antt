@@ -1,6 +1,6 @@
 use Rattle.std.proofs.Common.{List, length, sym, subst, ap, ◌∙◌, rules}
 use Rattle.code_rules.specs.declared.blocks.Block.{Block}
-use Rattle.prg_laid.specs.Commands.{AreFilters, IsFilterBlock}
+use Rattle.prg_laid.specs.Whole.{AreFilters, IsFilterBlock}
 use Rattle.prg_laid.proofs.Knowing.{one_longer, one_more}
 use Rattle.prg_laid.proofs.judging.filter_blocks.Goals as goal
 

@@ -1,5 +1,5 @@
 use Rattle.std.proofs.Common.{◌≡◌, length}
-use Rattle.prg_laid.specs.Commands.{AreFilters}
+use Rattle.prg_laid.specs.Whole.{AreFilters}
 use Rattle.prg_laid.proofs.judging.filter_blocks.Given as goal
 
 abbrev pub invariant-loop-number : goal.invariant-loop-number

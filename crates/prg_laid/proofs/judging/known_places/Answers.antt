@@ -1,7 +1,7 @@
 use Rattle.std.proofs.Common.{◌≡◌, ℕ, List, length, sym, subst, ap, ◌∙◌}
 use Rattle.code_items.specs.declared.state.State.{State}
 use Rattle.code_rules.specs.Places.{start_of, state_at, or_state, map_at}
-use Rattle.prg_laid.specs.Commands.{AreKnown}
+use Rattle.prg_laid.specs.Whole.{AreKnown}
 use Rattle.prg_laid.proofs.Knowing.{first_flow, none_known, one_longer, one_more, state_is}
 use Rattle.prg_laid.proofs.judging.known_places.Goals as goal
 

@@ -1,6 +1,6 @@
 use Rattle.std.proofs.Common.{◌≡◌, length}
 use Rattle.code_rules.specs.Places.{incoming_at}
-use Rattle.prg_laid.specs.Commands.{AreKnown}
+use Rattle.prg_laid.specs.Whole.{AreKnown}
 use Rattle.prg_laid.proofs.judging.known_places.Given as goal
 
 abbrev pub invariant-loop-place : goal.invariant-loop-place
