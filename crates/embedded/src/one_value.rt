@@ -34,7 +34,7 @@ use tablereef::xverify::{Verified, verify};
 
 /// An accepted code that begins with an expression's code, and how many instructions that has.
 #[derive(Drop)]
-struct Compiled {
+struct ExprCode {
     verified: Verified,
     count: u64,
 }
@@ -125,7 +125,7 @@ fn accepted(alloc: Global, code: Code) -> Option<Verified>
 }
 
 /// An accepted code that begins with the expression's code, and takes its value behind it.
-fn compiled(alloc: Global, e: &Expr) -> Option<Compiled>
+fn compiled(alloc: Global, e: &Expr) -> Option<ExprCode>
     ensures { IfSome result (λ compiled. BeginsWith (tree_of e.now) compiled.count compiled.verified) }
 {
     let shape = no_shape(alloc);
@@ -147,7 +147,7 @@ fn compiled(alloc: Global, e: &Expr) -> Option<Compiled>
     let constants = constants_of(alloc, &pool).ok()?;
     let code = code_around(alloc, shape, constants, block, kind).ok()?;
     let verified = accepted(alloc, code)?;
-    Some(Compiled { verified, count })
+    Some(ExprCode { verified, count })
 }
 
 /// Runs an accepted code from its beginning on the checking machine, as far as a budget goes that it spends.
@@ -169,10 +169,10 @@ fn run_spent<F: Files>(
     let lines = TypedLines::none(alloc);
     let mut world = World::opening(alloc, verified.legal(), store, day, lines).ok()?;
     let outcome = run_checked(alloc, verified.legal(), &mut world, budget);
-    if outcome.end != End::Spent {
-        return None;
+    match outcome.end {
+        End::Spent => Some(world),
+        _ => None,
     }
-    Some(world)
 }
 
 /// The world in which the value of an expression without names is on top of the stack. None where it has a fault, names
@@ -189,5 +189,6 @@ pub fn value_of<F: Files>(
     spent_budgets_lead_to_one_world();
     let compiled = compiled(alloc, e)?;
     let _code = compiled.verified.code();
-    run_spent(alloc, files, &compiled.verified, day, compiled.count)
+    let world = run_spent(alloc, files, &compiled.verified, day, compiled.count)?;
+    Some(world)
 }
