@@ -1,24 +1,31 @@
 -- The value that an expression's code leaves where it runs by itself.
 use Rattle.std.proofs.Common.{◌≡◌, ℕ, zero, suc, ◌-◌, Bool, true, false, Option, Some, None, List, [], ◌∷◌, length, refl}
-use Rattle.std.proofs.Common.{sym, ap, subst, ◌∙◌}
+use Rattle.std.proofs.Common.{sym, ap, subst, ◌∙◌, map}
 use Rattle.std.specs.Prelude.{codes, replicate, slice_index_or, if◌then◌else◌}
 use Rattle.std.specs.Str.{bytes_eq}
 use Rattle.tablereef.specs.Calendar.DayParts.{DayParts}
+use Rattle.tablereef.specs.Xvalue.Kind.{Kind}
 use Rattle.tablereef.specs.Xvalue.Setting.{settings_off}
-use Rattle.tablereef.specs.Xvalue.Value.{Value}
 use Rattle.tablereef.specs.CodeItems.Code.{Code}
+use Rattle.tablereef.specs.CodeItems.Instr.{Instr}
+use Rattle.tablereef.specs.CodeItems.Kinds.{slots_covered}
+use Rattle.tablereef.specs.CodeItems.Legal.{IsCode}
 use Rattle.tablereef.specs.CodeItems.Shape.{Shape}
 use Rattle.tablereef.specs.ExprLaws.Meaning.{nothing, value_in}
 use Rattle.tablereef.specs.ExprLaws.Seeing.{sight, used_fields, value_of_area, field_value, alias_of, with_value}
-use Rattle.tablereef.specs.PrgCompile.Readings.{field_named, on_some}
+use Rattle.tablereef.specs.ExprLaws.Seeing.{StandsAt, IsThere}
+use Rattle.tablereef.specs.FitLaws.Fits.{IsFitting}
+use Rattle.tablereef.specs.PrgCompile.Readings.{Scoped, field_named, on_some}
+use Rattle.tablereef.specs.PrgCompile.Written.{IsWrittenExpr}
 use Rattle.tablereef.specs.PrgParser.Tree.{Tree}
 use Rattle.tablereef.specs.RunLaws.End.TheVariants.{Spent}
 use Rattle.tablereef.specs.RunLaws.Opening.{opening}
 use Rattle.tablereef.specs.RunLaws.Outcome.{Outcome}
 use Rattle.tablereef.specs.RunLaws.Run.{after, spent, Ran}
-use Rattle.tablereef.specs.RunLaws.World.{World}
+use Rattle.tablereef.specs.RunLaws.World.{World, kind_held}
 use Rattle.tablereef.specs.WorkArea.Areas.{StoreState, area_table, closed_all}
-use Rattle.embedded.specs.Alone.{seen_alone}
+use Rattle.tablereef.specs.Xverify.Rules.{Accepted}
+use Rattle.embedded.specs.Alone.{seen_alone, no_names, BeginsWith}
 
 -- ---- what is seen
 
@@ -52,18 +59,36 @@ seen code store today = λ i. record {
 
 -- ---- what is left
 
-pub on_top : (code : Code) (store : StoreState) (today : Option DayParts) (e : Tree) (count budget : ℕ)
-    (outcome : Outcome) (v : World) → budget ≡ count
-    → after code (opening code store [] today) count
-    ≡ Some (with_value count (value_in (sight code.declared.shape [] (opening code store [] today)) e)
-    (opening code store [] today))
-    → spent code (opening code store [] today) count ≡ count
-    → ((u : World) → after code (opening code store [] today) count ≡ Some u
-    → Ran code (opening code store [] today) (spent code (opening code store [] today) count) outcome v
-    → outcome.end ≡ Spent → v ≡ u)
-    → Ran code (opening code store [] today) budget outcome v → outcome.end ≡ Spent
-    → v.values.stack ≡ value_in (seen_alone today) e ∷ []
-on_top code store today e count budget outcome v same left paid one ran is =
+-- the two laws
+abbrev pub LeavesValues : Type 0
+LeavesValues = (code : Code) (s : Scoped) (w : World) (e : Tree) (kind : Kind) (block : List Instr) → IsCode code
+    → Accepted code → IsFitting code w → StandsAt code s w → IsWrittenExpr s e kind code.declared.constants block
+    → IsThere code w.place block
+    → (after code w (length block)
+    ≡ Some (with_value (length block) (value_in (sight code.declared.shape s.names w) e) w))
+    × (spent code w (length block) ≡ length block)
+
+abbrev pub LeadsToOne : Type 0
+LeadsToOne = (code : Code) (w u v : World) (n : ℕ) (outcome : Outcome) → after code w n ≡ Some u
+    → Ran code w (spent code w n) outcome v → outcome.end ≡ Spent → v ≡ u
+
+stands_alone : (code : Code) (store : StoreState) (today : Option DayParts) → code.declared.slots ≡ 0
+    → StandsAt code (no_names code.declared.shape) (opening code store [] today)
+stands_alone code store today none = record {
+  shape = refl;
+  outside = refl;
+  slots = subst (λ n. slots_covered [] (map kind_held (replicate n None)) ≡ true) (sym none) refl;
+  desk = refl;
+}
+
+pub on_top : LeavesValues → LeadsToOne → (code : Code) (e : Tree) (count : ℕ) (store : StoreState)
+    (today : Option DayParts) (outcome : Outcome) (v : World) → IsCode code → Accepted code → BeginsWith e count code
+    → IsFitting code (opening code store [] today) → Ran code (opening code store [] today) count outcome v
+    → outcome.end ≡ Spent → v.values.stack ≡ value_in (seen_alone today) e ∷ []
+on_top leaves one code e count store today outcome v legal accepted b fits ran is =
     let w = opening code store [] today in
-    let there = one _ left (subst (λ n. Ran code w n outcome v) (same ∙ sym paid) ran) is in
+    let left = leaves code (no_names code.declared.shape) w e b.kind b.block legal accepted fits
+        (stands_alone code store today b.slots) b.written b.there in
+    let there = one code w _ v (length b.block) outcome left.0
+        (subst (λ n. Ran code w n outcome v) (b.count_is ∙ sym left.1) ran) is in
     ap (λ (u : World). u.values.stack) there ∙ ap (λ s. value_in s e ∷ []) (seen code store today)

@@ -99,12 +99,15 @@ fn call_both<R: Runtime<A = Global>>(
     day: RunDay,
 ) -> io::Result<()> {
     match run_loaded(rt.alloc(), files, day) {
-        Some(outcome) => println!(rt; "{outcome:?}")?,
-        None => println!(rt; "not run")?,
+        Some(outcome) => println!(rt; "over tables: {outcome:?}")?,
+        None => println!(rt; "over tables: not run")?,
     }
     for text in ["12 / 5 + DAY(DATE())", "1 +", "NAME"] {
-        let told = has_value(rt.alloc(), files, day, text.as_bytes());
-        println!(rt; "{text}: {told}")?;
+        if has_value(rt.alloc(), files, day, text.as_bytes()) {
+            println!(rt; "{text}: its value is on top")?;
+        } else {
+            println!(rt; "{text}: no value")?;
+        }
     }
     Ok(())
 }

@@ -21,7 +21,7 @@ use tablereef::code_items::{
 use tablereef::expr_laws::laws::expressions_leave_their_values;
 use tablereef::file_access::Files;
 use tablereef::ndx_tree::NdxTree;
-use tablereef::prg_compile::{Names, Pool, Scope, compile_expr};
+use tablereef::prg_compile::{Names, Pool, Scope, compile_expr, kind_of};
 use tablereef::prg_parser::Expr;
 use tablereef::run_laws::laws::{new_stores_fit, spent_budgets_lead_to_one_world};
 use tablereef::table_files::load;
@@ -32,12 +32,9 @@ use tablereef::xcode::LegalCode;
 use tablereef::xvalue::{Kind, Value};
 use tablereef::xverify::{Verified, verify};
 
-/// The kinds that a value may have.
-const KINDS: [Kind; 4] = [Kind::Number, Kind::Text, Kind::Date, Kind::Logical];
-
 /// An accepted code that begins with an expression's code, and how many instructions that has.
 #[derive(Drop)]
-struct Compiled {
+struct ExprCode {
     verified: Verified,
     count: u64,
 }
@@ -127,9 +124,8 @@ fn accepted(alloc: Global, code: Code) -> Option<Verified>
     }
 }
 
-/// An accepted code that begins with the expression's code and takes a value of this kind behind it: none where its
-/// value has another kind.
-fn compiled_as(alloc: Global, e: &Expr, kind: Kind) -> Option<Compiled>
+/// An accepted code that begins with the expression's code, and takes its value behind it.
+fn compiled(alloc: Global, e: &Expr) -> Option<ExprCode>
     ensures { IfSome result (λ compiled. BeginsWith (tree_of e.now) compiled.count compiled.verified) }
 {
     let shape = no_shape(alloc);
@@ -141,6 +137,7 @@ fn compiled_as(alloc: Global, e: &Expr, kind: Kind) -> Option<Compiled>
         names: &names,
         in_filter: false,
     };
+    let kind = kind_of(&scope, e).ok()?;
     let mut pool = Pool::new(alloc);
     let block = compile_expr(alloc, e, &scope, &mut pool).ok()?;
     if block.len() >= 65_534 {
@@ -150,19 +147,7 @@ fn compiled_as(alloc: Global, e: &Expr, kind: Kind) -> Option<Compiled>
     let constants = constants_of(alloc, &pool).ok()?;
     let code = code_around(alloc, shape, constants, block, kind).ok()?;
     let verified = accepted(alloc, code)?;
-    Some(Compiled { verified, count })
-}
-
-/// An accepted code that begins with the expression's code.
-fn compiled(alloc: Global, e: &Expr) -> Option<Compiled>
-    ensures { IfSome result (λ compiled. BeginsWith (tree_of e.now) compiled.count compiled.verified) }
-{
-    for kind in KINDS {
-        if let Some(compiled) = compiled_as(alloc, e, kind) {
-            return Some(compiled);
-        }
-    }
-    None
+    Some(ExprCode { verified, count })
 }
 
 /// Runs an accepted code from its beginning on the checking machine, as far as a budget goes that it spends.
@@ -184,10 +169,10 @@ fn run_spent<F: Files>(
     let lines = TypedLines::none(alloc);
     let mut world = World::opening(alloc, verified.legal(), store, day, lines).ok()?;
     let outcome = run_checked(alloc, verified.legal(), &mut world, budget);
-    if outcome.end != End::Spent {
-        return None;
+    match outcome.end {
+        End::Spent => Some(world),
+        _ => None,
     }
-    Some(world)
 }
 
 /// The world in which the value of an expression without names is on top of the stack. None where it has a fault, names
@@ -204,5 +189,6 @@ pub fn value_of<F: Files>(
     spent_budgets_lead_to_one_world();
     let compiled = compiled(alloc, e)?;
     let _code = compiled.verified.code();
-    run_spent(alloc, files, &compiled.verified, day, compiled.count)
+    let world = run_spent(alloc, files, &compiled.verified, day, compiled.count)?;
+    Some(world)
 }

@@ -25,7 +25,6 @@ use Rattle.code_items.specs.declared.instr.RecordInstr.TheVariants.{Recall, Pack
 use Rattle.code_rules.specs.Places.{instr_at}
 use Rattle.run_values.specs.Tagged.{TaggedValues}
 use Rattle.run_steps.specs.World.{World, EnvState}
-use Rattle.run_steps.specs.Control.{effect, finishes}
 use Rattle.run_steps.specs.Effects.{top, whole_on_top, record_number, move_landing, on_value, on_table, list_numbers}
 use Rattle.run_steps.specs.Effects.{index_in, open_landing, store_opened, store_by_area, moved, store_by_move}
 use Rattle.run_steps.specs.Effects.{shown_here, closing_store, store_by_record, env_after, filter_here}
