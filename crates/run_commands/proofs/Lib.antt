@@ -1,5 +1,6 @@
 pub mod Ran
-pub mod Results
+pub mod Reported
 pub mod Same
+pub mod Rehearsed
+pub mod Operated
 pub mod TestedParts
-pub mod Wholes

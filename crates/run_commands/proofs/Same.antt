@@ -1,13 +1,23 @@
 -- What is said of files is said of any that hold the same.
-use Rattle.std.proofs.Common.{ℕ, List, [], ◌∷◌, take, Option, Some, None}
+use Rattle.std.proofs.Common.{ℕ, Bool, true, false, List, [], ◌∷◌, take, Option, Some, None}
+use Rattle.std.specs.Prelude.{MatchBool}
 use Rattle.std.specs.List.{AllZip}
+use Rattle.code_items.specs.declared.code.Code.{Code}
 use Rattle.dbf_file.specs.declared.stamp.Stamp.{Stamp}
 use Rattle.dbf_file.specs.Tables.{TableState}
 use Rattle.file_access.specs.Holding.{Holds, SameFiles}
 use Rattle.ndx_tree.specs.Trees.{TreeView}
+use Rattle.run_commands.specs.declared.ending.Ended.{Ended}
+use Rattle.run_commands.specs.declared.job.Job.{Job}
+use Rattle.run_commands.specs.declared.refusal.RunRefusal.{RunRefusal}
+use Rattle.run_commands.specs.declared.refusal.RunRefusal.TheVariants.{File, Rule, Disk, Tables, Memory}
+use Rattle.run_commands.specs.Parts.{Stopped}
+use Rattle.run_commands.specs.Reports.{CodeRan, IsTested, IsAccepted, IsSavedRun, IsStopped}
+use Rattle.run_steps.specs.declared.ending.Outcome.{Outcome}
 use Rattle.shape.specs.declared.indexes.IndexShape.{IndexShape}
 use Rattle.shape.specs.declared.tables.TableShape.{TableShape}
 use Rattle.shape.specs.declared.whole.Shape.{Shape}
+use Rattle.file_access.proofs.Holding.{same_then}
 use Rattle.table_files.specs.declared.refusal.FilesRefusal.{FilesRefusal}
 use Rattle.table_files.specs.declared.refusal.FilesRefusal.TheVariants.{Refused, Disk as FileDisk, Memory as FileMemory}
 use Rattle.table_files.specs.declared.refusal.TableFault.{TableFault}
@@ -117,3 +127,68 @@ ended_same a b c same shape store stamp broke breaks f refusal h = record {
   saved = saved_same a b c same shape store stamp h.k h.saved;
   why = save_refused shape h.k broke breaks f refusal h.why;
 }
+
+-- ---- whole runs
+
+tested_same : (a b : Holds) → SameFiles a b → (job : Job) (code : Code) (ended : Ended) (rows : List ℕ)
+    → IsTested b job code ended rows → IsTested a job code ended rows
+tested_same a b same job code ended rows h = record {
+  store = h.store;
+  loaded = loaded_same a b same code.declared.shape job.limit h.store h.loaded;
+  outcome = h.outcome;
+  run = h.run;
+  told = h.told;
+}
+
+accepted_same : (a b : Holds) → SameFiles a b
+    → (job : Job) (code : Code) (outcome : Outcome) (rows : List ℕ) (tables : StoreState) (stamp : Stamp)
+    → IsAccepted b job code outcome rows tables stamp → IsAccepted a job code outcome rows tables stamp
+accepted_same a b same job code outcome rows tables stamp h = record {
+  accepted = h.accepted;
+  store = h.store;
+  loaded = loaded_same a b same code.declared.shape job.limit h.store h.loaded;
+  run = h.run;
+  stamped = h.stamped;
+}
+
+saved_run_same : (a b c : Holds) → SameFiles a b → (job : Job) (code : Code) (ended : Ended) (rows : List ℕ)
+    → IsSavedRun b c job code ended rows → IsSavedRun a c job code ended rows
+saved_run_same a b c same job code ended rows h = record {
+  outcome = h.outcome;
+  tables = h.tables;
+  stamp = h.stamp;
+  run = accepted_same a b same job code h.outcome rows h.tables h.stamp h.run;
+  told = h.told;
+  saved = saved_same a b c same code.declared.shape h.tables h.stamp _ h.saved;
+}
+
+stopped_run_same : (a b c : Holds) → SameFiles a b → (broke breaks : Type 0) → (breaks → broke)
+    → (job : Job) (code : Code) (refusal : FilesRefusal) (rows : List ℕ)
+    → IsStopped b c breaks job code refusal rows → IsStopped a c broke job code refusal rows
+stopped_run_same a b c same broke breaks f job code refusal rows h = record {
+  outcome = h.outcome;
+  tables = h.tables;
+  stamp = h.stamp;
+  run = accepted_same a b same job code h.outcome rows h.tables h.stamp h.run;
+  stopped = ended_same a b c same code.declared.shape h.tables h.stamp broke breaks f refusal h.stopped;
+}
+
+either_same : (checked : Bool) {A B C D : Type 0} → (A → C) → (B → D) → MatchBool checked A B → MatchBool checked C D
+either_same true f g h = f h
+either_same false f g h = g h
+
+pub ran_same : (a b c : Holds) → SameFiles a b → (job : Job) (code : Code) (ended : Ended) (rows : List ℕ)
+    → CodeRan b c job ended rows code → CodeRan a c job ended rows code
+ran_same a b c same job code ended rows h = either_same job.checked
+    (λ t. (tested_same a b same job code ended rows t.0, same_then a b c same t.1))
+    (saved_run_same a b c same job code ended rows) h
+
+pub stopped_same : (a b c : Holds) → SameFiles a b → (broke breaks : Type 0) → (breaks → broke)
+    → (job : Job) (code : Code) (rows : List ℕ) (refusal : RunRefusal) → Stopped b c breaks job code rows refusal
+    → Stopped a c broke job code rows refusal
+stopped_same a b c same broke breaks f job code rows (File fault) h = h
+stopped_same a b c same broke breaks f job code rows (Rule refused) h = h
+stopped_same a b c same broke breaks f job code rows Disk h = h
+stopped_same a b c same broke breaks f job code rows (Tables refusal) h =
+    stopped_run_same a b c same broke breaks f job code refusal rows h
+stopped_same a b c same broke breaks f job code rows Memory h = h

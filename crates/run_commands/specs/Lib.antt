@@ -6,5 +6,3 @@ pub mod Parts
 pub mod Rehearsals
 pub mod Reports
 pub mod Runs
-pub mod Sessions
-pub mod SessionLaws

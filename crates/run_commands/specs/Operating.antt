@@ -1,14 +1,19 @@
 -- Runs whose lines an operator types, from files to files.
 use Rattle.std.specs.Prelude.{◌≡◌, ◌≤◌, ℕ, true, List, [], length, ⊤, Option, Result, Ok, Err}
+use Rattle.code_items.specs.declared.code.Code.{Code}
 use Rattle.file_access.specs.Holding.{Holds, SameFiles}
 use Rattle.operating.specs.Answers.{BrokeOff, FailedOrNot}
 use Rattle.operating.specs.declared.operator.OperatorFailed.{OperatorFailed}
+use Rattle.run_commands.specs.declared.ending.Ended.{Ended}
 use Rattle.run_commands.specs.declared.job.Job.{Job}
-use Rattle.run_commands.specs.declared.refusal.OperateRefusal.{OperateRefusal}
-use Rattle.run_commands.specs.declared.refusal.OperateRefusal.TheVariants.{Run, Broke, Handed}
+use Rattle.run_commands.specs.declared.conversation.OperateRefusal.{OperateRefusal}
+use Rattle.run_commands.specs.declared.conversation.OperateRefusal.TheVariants.{Run, Broke, Handed}
 use Rattle.run_commands.specs.declared.refusal.RunRefusal.{RunRefusal}
 use Rattle.run_commands.specs.Reports.{IsRefused}
+use Rattle.run_commands.specs.Runs.{IsSoundRun}
+use Rattle.run_steps.specs.declared.ending.Outcome.{Outcome}
 use Rattle.text_lines.specs.Lines.{is_ended}
+use Rattle.work_area.specs.Areas.{StoreState}
 
 -- the same job, whose input is this text
 pub record IsWith (job : Job) (typed : List ℕ) (whole : Job) : Type 0 where
@@ -18,6 +23,11 @@ pub record IsWith (job : Job) (typed : List ℕ) (whole : Job) : Type 0 where
   pub budget : whole.budget ≡ job.budget
   pub limit : whole.limit ≡ job.limit
   pub day : whole.day ≡ job.day
+
+-- a run that was carried out is the job's run over the lines of this text
+abbrev pub SoundOver : Code → StoreState → Job → List ℕ → Outcome → List ℕ → StoreState → Type 0
+SoundOver code store job typed outcome rows tables =
+    (whole : Job) → IsWith job typed whole → IsSoundRun code store whole outcome rows tables
 
 -- what is refused of a run is refused of the job's run; where the conversation broke off, nothing is printed or saved
 abbrev pub OperationRefused : Holds → Holds → Job → Type 0 → OperateRefusal → List ℕ → Type 0
@@ -41,15 +51,9 @@ IfOfTalk says handed most (Run refusal) = says refusal
 IfOfTalk says handed most (Broke why) = ⊤
 IfOfTalk says handed most Handed = IsNoBeginning handed most
 
--- a refusal of the run
-abbrev pub IsOfRun : (RunRefusal → Type 0) → OperateRefusal → Type 0
-IsOfRun says (Run refusal) = says refusal
-IsOfRun says (Broke why) = ⊥
-IsOfRun says Handed = ⊥
-
 -- the same result, its refusal as that of a run
-abbrev pub SameResult : {A : Type 0} → Result A RunRefusal → Result A OperateRefusal → Type 0
-SameResult (Ok done) told = told ≡ Ok done
+abbrev pub SameResult : Result Ended RunRefusal → Result Ended OperateRefusal → Type 0
+SameResult (Ok ended) told = told ≡ Ok ended
 SameResult (Err refusal) told = told ≡ Err (Run refusal)
 
 -- the count of the journal's failures before and after a refused conversation: it rose, or is at its greatest, where

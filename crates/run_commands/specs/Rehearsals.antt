@@ -13,7 +13,6 @@ use Rattle.run_commands.specs.Runs.{IsLeft}
 use Rattle.run_steps.specs.declared.ending.Outcome.{Outcome}
 use Rattle.table_changes.specs.Stores.{AreChanges}
 use Rattle.table_changes.specs.declared.stores.Changes.{Changes}
-use Rattle.shape.specs.declared.whole.Shape.{Shape}
 use Rattle.table_files.specs.Loading.{Loaded}
 use Rattle.work_area.specs.Areas.{StoreState}
 
@@ -26,13 +25,6 @@ pub record LeavesTables (holds : Holds) (job : Job) (code : Code) (outcome : Out
   pub tables : StoreState
   pub left : IsLeft code store job outcome rows tables
   pub changed : AreChanges code.declared.shape store tables changes
-
--- such a run with its comparison, over tables of a shape
-pub record IsCompared (shape : Shape) (before : StoreState) (outcome : Outcome) (rows : List ℕ) (after : StoreState)
-    (compared : Compared) : Type 0 where
-  pub outcome_is : compared.outcome ≡ outcome
-  pub rows_are : compared.rows.items ≡ rows
-  pub changed : AreChanges shape before after compared.changes
 
 -- how many instructions the longest filter has; 0 if there is no filter
 pub record IsLongestFilter (filters : List Filter) (length : ℕ) : Type 0 where
@@ -47,13 +39,6 @@ pub record IsToldAs (declared : Declared) (done : Compared) (told : Rehearsal) :
   pub tables : told.tables.items ≡ map (λ t. t.name) declared.shape.tables
   pub indexes : told.indexes.items ≡ map (λ x. x.name) declared.shape.indexes
   pub longest : IsLongestFilter declared.filters told.longest_filter
-
--- the same of a run whose tables were these before, and these behind it
-pub record IsReported (declared : Declared) (before : StoreState) (outcome : Outcome) (rows : List ℕ)
-    (after : StoreState) (told : Rehearsal) : Type 0 where
-  pub compared : Compared
-  pub is : IsCompared declared.shape before outcome rows after compared
-  pub told_as : IsToldAs declared compared told
 
 -- what is told is such a run, of a code that may run as the job says
 pub record IsRehearsed (holds : Holds) (job : Job) (told : Rehearsal) (code : Code) : Type 0 where

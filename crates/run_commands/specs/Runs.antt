@@ -9,7 +9,7 @@ use Rattle.run_steps.specs.Shapes.{StoreFits}
 use Rattle.run_steps.specs.World.{World}
 use Rattle.screen_lines.specs.State.{sent}
 use Rattle.text_lines.specs.Lines.{short_lines}
-use Rattle.work_area.specs.Areas.{IsWithinLimit, StoreState}
+use Rattle.work_area.specs.Areas.{StoreState}
 
 -- the world from which a job's run of the code begins, over these tables
 abbrev pub begun : Code → StoreState → Job → World
@@ -21,20 +21,17 @@ pub record IsRun (code : Code) (store : StoreState) (job : Job) (outcome : Outco
   pub ran : Ran code (begun code store job) job.budget outcome last
   pub rows_are : rows ≡ sent last.env.screen
 
--- the same; these tables are those of its last world, hold what the code declares, and have no more records than the
--- loaded ones may have
+-- the same; these tables are those of its last world, and hold what the code declares
 pub record IsLeft (code : Code) (store : StoreState) (job : Job) (outcome : Outcome) (rows : List ℕ)
     (tables : StoreState) : Type 0 where
   pub run : IsRun code store job outcome rows
   pub tables_are : tables ≡ run.last.env.store
   pub fits : StoreFits code.declared tables
-  pub within_the_limit : IsWithinLimit store.limit tables
 
--- the same, without a fault
+-- the same, without a fault; the tables of its last world are these, and hold what the code declares
 pub record IsSoundRun (code : Code) (store : StoreState) (job : Job) (outcome : Outcome) (rows : List ℕ)
     (tables : StoreState) : Type 0 where
   pub run : IsRun code store job outcome rows
   pub no_fault : ¬ IsFault outcome.end
   pub tables_are : tables ≡ run.last.env.store
   pub fits : StoreFits code.declared tables
-  pub within_the_limit : IsWithinLimit store.limit tables

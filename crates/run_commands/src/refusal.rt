@@ -5,7 +5,6 @@ ghost use Rattle.std.specs.Prelude.{◌≡◌};
 ghost use Rattle.run_commands.specs.Exits.{exit_of_run, name_told, refusal_told};
 
 use file_commands::{Fault, Status};
-use operating::Broken;
 use std::alloc::AllocError;
 use std::fmt;
 use table_files::FilesRefusal;
@@ -43,60 +42,6 @@ impl From<FilesRefusal> for RunRefusal {
 
     fn from(refusal: FilesRefusal) -> RunRefusal {
         RunRefusal::Tables(refusal)
-    }
-}
-
-/// Why a conversation didn't come to a run that is saved.
-#[derive(Clone, Copy)]
-pub enum OperateRefusal {
-    /// The run isn't carried out, or not all is saved, for this reason.
-    Run(RunRefusal),
-    /// The conversation broke off. Nothing is saved.
-    Broke(Broken),
-    /// The lines that the journal holds at the beginning have more bytes than all lines may have, or the last one has
-    /// no end.
-    Handed,
-}
-
-impl From<AllocError> for OperateRefusal {
-    ghost use Rattle.run_commands.specs.declared.refusal.OperateRefusal.TheVariants.{Run};
-    ghost use Rattle.run_commands.specs.declared.refusal.RunRefusal.TheVariants.{Memory};
-
-    ghost from_gives = { λ _ e. e ≡ Run Memory };
-
-    fn from(_: AllocError) -> OperateRefusal {
-        OperateRefusal::Run(RunRefusal::Memory)
-    }
-}
-
-impl From<Broken> for OperateRefusal {
-    ghost use Rattle.run_commands.specs.declared.refusal.OperateRefusal.TheVariants.{Broke};
-
-    ghost from_gives = { λ why e. e ≡ Broke why };
-
-    fn from(why: Broken) -> OperateRefusal {
-        OperateRefusal::Broke(why)
-    }
-}
-
-impl From<FilesRefusal> for OperateRefusal {
-    ghost use Rattle.run_commands.specs.declared.refusal.OperateRefusal.TheVariants.{Run};
-    ghost use Rattle.run_commands.specs.declared.refusal.RunRefusal.TheVariants.{Tables};
-
-    ghost from_gives = { λ refusal e. e ≡ Run (Tables refusal) };
-
-    fn from(refusal: FilesRefusal) -> OperateRefusal {
-        OperateRefusal::Run(RunRefusal::Tables(refusal))
-    }
-}
-
-impl From<RunRefusal> for OperateRefusal {
-    ghost use Rattle.run_commands.specs.declared.refusal.OperateRefusal.TheVariants.{Run};
-
-    ghost from_gives = { λ refusal e. e ≡ Run refusal };
-
-    fn from(refusal: RunRefusal) -> OperateRefusal {
-        OperateRefusal::Run(refusal)
     }
 }
 

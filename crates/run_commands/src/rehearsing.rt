@@ -1,37 +1,33 @@
 // Runs that save nothing, and what they would have saved.
 #![tactic(auto)]
 
-ghost use Rattle.std.specs.Prelude.{◌≡◌, ◌≤◌, ◌<◌, ◌↔◌, IsTrue, true, false, length, map};
-ghost use Rattle.std.specs.Prelude.{IfOk, IfErr, OnErr, OnOk, Ok};
+ghost use Rattle.std.specs.Prelude.{◌≡◌, ◌≤◌, ◌<◌, ◌↔◌, IsTrue, true, false, map, IfOk, IfErr, Ok};
 ghost use Rattle.file_access.specs.Holding.{Rose, SameFiles};
 ghost use Rattle.file_commands.specs.Reports.{HasCode};
-ghost use Rattle.operating.specs.Answers.{AnswersKept, LastUnkept};
-ghost use Rattle.run_commands.specs.declared.job.Job.{Job as AnyJob};
 ghost use Rattle.run_commands.specs.declared.refusal.RunRefusal.TheVariants.{Memory};
-ghost use Rattle.run_commands.specs.Operating.{IfOfRun, IfOfTalk, IsWith, OperationBroke, OperationFails};
-ghost use Rattle.run_commands.specs.Rehearsals.{IsCompared, IsLongestFilter, IsRehearsed, IsReported, IsToldAs};
+ghost use Rattle.run_commands.specs.Parts.{IsOfTables, CodeRefused};
+ghost use Rattle.run_commands.specs.Rehearsals.{IsLongestFilter, IsRehearsed, IsToldAs, LeavesTables};
 ghost use Rattle.run_commands.specs.Reports.{RefusedBefore};
-ghost use Rattle.run_commands.specs.Sessions.{code_run, refusal_in, tables_left};
-ghost use Rattle.shape.specs.Whole.{is_shape};
-ghost use Rattle.table_changes.specs.Stores.{AreKept};
-ghost use Rattle.work_area.specs.Areas.{StoreState};
 
-use crate::completing::{CompletedRun, Rows, complete_run};
 use crate::ending::{Ended, ended_of, put_name};
 use crate::job::Job;
-use crate::refusal::{OperateRefusal, RunRefusal};
-use crate::running::of_run;
-use crate::session::{Conversation, EndedRun, GivenLines, Session};
+use crate::machines::{Run, run_accepted, run_any};
+use crate::refusal::RunRefusal;
+use crate::running::{accept, of_code};
 use code_items::laws::legal_codes;
 use code_items::{Declared, Filter};
 use file_access::Files;
-use line_journal::Journal;
-use operating::{Operator, Unwatched, Watcher, can_go_on};
+use file_commands::read_code;
+use legal_code::LegalCode;
+use operating::{Unwatched, Watcher};
+use run_laws::laws::new_stores_fit;
 use run_steps::Outcome;
-use shape::{IndexShape, Name, Shape, TableShape, copy_of_name};
+use shape::{IndexShape, Name, TableShape, copy_of_name};
 use std::alloc::{AllocError, Global};
 use std::fmt;
-use table_changes::{Changes, KeptStore, RowCounts, changes_since};
+use table_changes::{Changes, RowCounts, changes_since, keep};
+use table_files::load;
+use xverify::Verified;
 
 /// The most instructions of a filter that isn't reported.
 const SHORT_FILTER: u16 = 64;
@@ -51,7 +47,7 @@ pub struct Rehearsal {
 
 /// A run that left its tables, compared with those before it.
 #[derive(Drop)]
-struct Compared {
+pub(crate) struct Compared {
     pub rows: Vec<u8>,
     pub outcome: Outcome,
     pub changes: Changes,
@@ -80,36 +76,68 @@ fn index_names(alloc: Global, indexes: &[IndexShape]) -> Result<Vec<Name>, Alloc
 }
 
 /// A run with what became of its tables, where there was memory to find that.
-fn with_changes(
-    rows: Vec<u8>,
-    outcome: Outcome,
+pub(crate) fn with_changes(
+    run: Run,
     changes: Result<Changes, AllocError>,
 ) -> Result<Compared, AllocError>
-    ensures { IfOk result (λ done. (changes ≡ Ok done.changes) × (done.outcome ≡ outcome) × (done.rows ≡ rows)) }
+    ensures { IfOk result (λ done.
+        (changes ≡ Ok done.changes) × (done.outcome ≡ run.outcome) × (done.rows ≡ run.rows)) }
 {
     Ok(Compared {
-        rows,
-        outcome,
+        rows: run.rows,
+        outcome: run.outcome,
         changes: changes?,
     })
 }
 
-/// Compares the tables that a run left with what was recorded of them before.
-fn compare(
+/// Runs a code on the checking machine, over the tables that it declares.
+fn compare_any<F: Files, W: Watcher>(
     alloc: Global,
-    shape: &Shape,
-    recorded: KeptStore,
-    run: EndedRun,
-) -> Result<Compared, AllocError>
-    requires legal { is_shape shape.now ≡ true }
-    requires count { length (tables_left run.state).tables ≡ length shape.now.tables }
-    requires recorded { (store : StoreState) × AreKept shape.now store recorded }
-    ensures { (store : StoreState) → AreKept shape.now store recorded
-        → IfOk result (IsCompared shape.now store run.outcome run.rows.items (tables_left run.state)) }
+    files: &mut F,
+    code: &LegalCode,
+    job: &Job<'_>,
+    watcher: &mut W,
+) -> Result<Compared, RunRefusal>
+    ensures done { IfOk result (λ done. LeavesTables (F.holds files.old) job.now code.now done.outcome
+        done.rows.items done.changes) }
+    ensures refused { IfErr result (IsOfTables (F.holds files.old) job.now code.now
+        (Rose (F.failed files.old) (F.failed files.new))) }
+    ensures kept { SameFiles (F.holds files.old) (F.holds files.new) }
+    ensures counted { F.failed files.old ≤ F.failed files.new }
 {
-    let changes = changes_since(alloc, shape, recorded, run.state.tables());
-    let EndedRun { rows, outcome, .. } = run;
-    with_changes(rows, outcome, changes)
+    legal_codes();
+    new_stores_fit();
+    let shape = &code.code().declared.shape;
+    let store = load(alloc, files, shape, job.limit.records())?;
+    let kept = keep(alloc, shape, &store)?;
+    let done = run_any(alloc, code, store, job, watcher)?;
+    let changes = changes_since(alloc, shape, kept, done.world.store());
+    Ok(with_changes(done.alone(), changes)?)
+}
+
+/// Runs an accepted code on the machine without tags, over the tables that it declares.
+fn compare_accepted<F: Files, W: Watcher>(
+    alloc: Global,
+    files: &mut F,
+    verified: &Verified,
+    job: &Job<'_>,
+    watcher: &mut W,
+) -> Result<Compared, RunRefusal>
+    ensures done { IfOk result (λ done. LeavesTables (F.holds files.old) job.now verified.now done.outcome
+        done.rows.items done.changes) }
+    ensures refused { IfErr result (IsOfTables (F.holds files.old) job.now verified.now
+        (Rose (F.failed files.old) (F.failed files.new))) }
+    ensures kept { SameFiles (F.holds files.old) (F.holds files.new) }
+    ensures counted { F.failed files.old ≤ F.failed files.new }
+{
+    legal_codes();
+    new_stores_fit();
+    let shape = &verified.code().declared.shape;
+    let loaded = load(alloc, files, shape, job.limit.records())?;
+    let kept = keep(alloc, shape, &loaded)?;
+    let done = run_accepted(alloc, verified, loaded, job, watcher)?;
+    let changes = changes_since(alloc, shape, kept, done.banks.store());
+    Ok(with_changes(done.alone(), changes)?)
 }
 
 /// How many instructions the longest of these filters has; 0 if there is none.
@@ -124,7 +152,11 @@ fn longest(filters: &[Filter]) -> u16
 }
 
 /// A comparison as it is reported, of a code with these declarations.
-fn told_of(alloc: Global, declared: &Declared, done: Compared) -> Result<Rehearsal, RunRefusal>
+pub(crate) fn told_of(
+    alloc: Global,
+    declared: &Declared,
+    done: Compared,
+) -> Result<Rehearsal, RunRefusal>
     ensures told { IfOk result (IsToldAs declared.now done) }
     ensures refused { IfErr result (λ refusal. refusal ≡ Memory) }
 {
@@ -139,46 +171,68 @@ fn told_of(alloc: Global, declared: &Declared, done: Compared) -> Result<Rehears
     })
 }
 
-/// What a completed run would have saved.
-fn report_changes(alloc: Global, done: CompletedRun<KeptStore>) -> Result<Rehearsal, RunRefusal>
-    requires count { length (tables_left done.run.state).tables ≡ length (code_run done.code).declared.shape.tables }
-    requires recorded { (store : StoreState) × AreKept (code_run done.code).declared.shape store done.baseline }
-    ensures reported { (store : StoreState) → AreKept (code_run done.code).declared.shape store done.baseline
-        → IfOk result (IsReported (code_run done.code).declared store done.run.outcome done.run.rows.items
-        (tables_left done.run.state)) }
-    ensures refused { IfErr result (λ refusal. refusal ≡ Memory) }
-{
-    legal_codes();
-    let CompletedRun {
-        code,
-        baseline,
-        run,
-    } = done;
-    let declared = &code.code().declared;
-    let compared = compare(alloc, &declared.shape, baseline, run)?;
-    told_of(alloc, declared, compared)
-}
-
-/// Runs the code in a file, its lines given by a session, and saves nothing: what a run would have saved is compared
-/// with the tables that were loaded.
-fn rehearse_session<F: Files, J, O, S: Session<J, O>>(
+/// Rehearses a code, accepted or not, on the checking machine.
+fn rehearse_any<F: Files, W: Watcher>(
     alloc: Global,
     files: &mut F,
+    code: &LegalCode,
     job: &Job<'_>,
-    session: &S,
-    journal: &mut J,
-    operator: &mut O,
-) -> Result<Rehearsal, OperateRefusal>
-    requires may_begin { S.may_begin session.now job.now journal.old }
-    ensures done { IfOk result (λ told. (whole : AnyJob) → IsWith job.now (S.lines job.now journal.new) whole
-        → HasCode (F.holds files.old whole.name.now) (IsRehearsed (F.holds files.old) whole told)) }
-    ensures refused { IfErr result (IfOfRun (RefusedBefore (F.holds files.old) job.now
-        (Rose (F.failed files.old) (F.failed files.new)))) }
+    watcher: &mut W,
+) -> Result<Rehearsal, RunRefusal>
+    requires { job.now.checked ≡ true }
+    ensures done { IfOk result (λ told. IsRehearsed (F.holds files.old) job.now told code.now) }
+    ensures refused { IfErr result (CodeRefused (F.holds files.old) job.now code.now
+        (Rose (F.failed files.old) (F.failed files.new))) }
     ensures kept { SameFiles (F.holds files.old) (F.holds files.new) }
-    ensures leaves { S.leaves session.now journal.old operator.old journal.new operator.new (refusal_in result) }
+    ensures counted { F.failed files.old ≤ F.failed files.new }
 {
-    let done = complete_run(alloc, files, job, &Rows, session, journal, operator)?;
-    Ok(report_changes(alloc, done)?)
+    match compare_any(alloc, files, code, job, watcher) {
+        Ok(done) => told_of(alloc, &code.code().declared, done),
+        Err(refusal) => Err(refusal),
+    }
+}
+
+/// Rehearses an accepted code, for a job that the checking machine doesn't run.
+fn rehearse_accepted<F: Files, W: Watcher>(
+    alloc: Global,
+    files: &mut F,
+    verified: &Verified,
+    job: &Job<'_>,
+    watcher: &mut W,
+) -> Result<Rehearsal, RunRefusal>
+    requires { job.now.checked ≡ false }
+    ensures done { IfOk result (λ told. IsRehearsed (F.holds files.old) job.now told verified.now) }
+    ensures refused { IfErr result (CodeRefused (F.holds files.old) job.now verified.now
+        (Rose (F.failed files.old) (F.failed files.new))) }
+    ensures kept { SameFiles (F.holds files.old) (F.holds files.new) }
+    ensures counted { F.failed files.old ≤ F.failed files.new }
+{
+    let declared = &verified.code().declared;
+    match compare_accepted(alloc, files, verified, job, watcher) {
+        Ok(done) => told_of(alloc, declared, done),
+        Err(refusal) => Err(refusal),
+    }
+}
+
+/// Rehearses a code as the job says.
+fn rehearse_code<F: Files, W: Watcher>(
+    alloc: Global,
+    files: &mut F,
+    code: LegalCode,
+    job: &Job<'_>,
+    watcher: &mut W,
+) -> Result<Rehearsal, RunRefusal>
+    ensures done { IfOk result (λ told. IsRehearsed (F.holds files.old) job.now told code) }
+    ensures refused { IfErr result (CodeRefused (F.holds files.old) job.now code
+        (Rose (F.failed files.old) (F.failed files.new))) }
+    ensures kept { SameFiles (F.holds files.old) (F.holds files.new) }
+    ensures counted { F.failed files.old ≤ F.failed files.new }
+{
+    if job.checked {
+        return rehearse_any(alloc, files, &code, job, watcher);
+    }
+    let verified = accept(alloc, code)?;
+    rehearse_accepted(alloc, files, &verified, job, watcher)
 }
 
 /// Rehearses the code in a file as `rehearse_files` does. The run is told to the watcher, in the parts that it says;
@@ -198,7 +252,10 @@ pub fn rehearse_files_watched<F: Files, W: Watcher>(
         (Rose (F.failed files.old) (F.failed files.new))) }
     ensures kept { SameFiles (F.holds files.old) (F.holds files.new) }
 {
-    of_run(rehearse_session(alloc, files, job, &GivenLines, watcher, &mut ()))
+    match read_code(alloc, files, job.name) {
+        Ok(code) => rehearse_code(alloc, files, code, job, watcher),
+        Err(refusal) => Err(of_code(refusal)),
+    }
 }
 
 /// Runs the code in a file as `run_files` does, and saves nothing: what a run would have saved is compared with the
@@ -218,46 +275,6 @@ pub fn rehearse_files<F: Files>(
     ensures kept { SameFiles (F.holds files.old) (F.holds files.new) }
 {
     rehearse_files_watched(alloc, files, job, &mut Unwatched)
-}
-
-/// Runs the code in a file while an operator types its lines, as `operate_files` does, and saves nothing: what a run
-/// would have saved is compared with the tables that were loaded. What is answered is what `rehearse_files` answers for
-/// the same job with what the journal holds then as its input.
-///
-/// # Errors
-/// Those for which `operate_files` saves nothing.
-pub fn rehearse_talk<F: Files, J: Journal, O: Operator>(
-    alloc: Global,
-    files: &mut F,
-    job: &Job<'_>,
-    most: usize,
-    journal: &mut J,
-    operator: &mut O,
-) -> Result<Rehearsal, OperateRefusal>
-    requires untested { job.now.checked ≡ false }
-    requires held { J.holds journal.old ≡ job.now.input.now }
-    ensures done { IfOk result (λ told. (whole : AnyJob) → IsWith job.now (J.holds journal.new) whole
-        → HasCode (F.holds files.old whole.name.now) (IsRehearsed (F.holds files.old) whole told)) }
-    ensures refused { IfErr result (IfOfTalk (RefusedBefore (F.holds files.old) job.now
-        (Rose (F.failed files.old) (F.failed files.new))) job.now.input.now most) }
-    ensures kept { SameFiles (F.holds files.old) (F.holds files.new) }
-    ensures few { OnOk result (length (J.holds journal.new) ≤ most) }
-    ensures still { length (J.holds journal.old) ≤ most → length (J.holds journal.new) ≤ most }
-
-    // What the journal holds then is what it held before, with the lines that were answered behind it, and no more.
-    // Where nothing is told, the last line that was answered may be missing.
-    ensures answered { OnOk result (AnswersKept (O.answered operator.old) (O.answered operator.new)
-        (J.holds journal.old) (J.holds journal.new)) }
-    ensures unkept { OnErr result (LastUnkept (O.answered operator.old) (O.answered operator.new)
-        (J.holds journal.old) (J.holds journal.new)) }
-    ensures unfailed { OnOk result (J.failed journal.new ≡ J.failed journal.old) }
-    ensures broke { IfErr result (OperationBroke (J.failed journal.old) (J.failed journal.new)) }
-    ensures cause { OperationFails result (O.failure operator.old) (O.failure operator.new) }
-{
-    if !can_go_on(job.input, most) {
-        return Err(OperateRefusal::Handed);
-    }
-    rehearse_session(alloc, files, job, &Conversation { most }, journal, operator)
 }
 
 /// Writes what became of a table's rows.

@@ -1,32 +1,29 @@
-// Runs whose tables are saved, from files to files.
+// Runs from files to files.
 #![tactic(auto)]
 
-ghost use Rattle.std.specs.Prelude.{◌≡◌, ◌≤◌, true, false, length, Err, MatchBool, IfOk, IfErr, OnErr, OnOk};
+ghost use Rattle.std.specs.Prelude.{◌≡◌, ◌≤◌, true, length, IfOk, IfErr, IsOk, OnErr};
+ghost use Rattle.code_rules.specs.Rules.{Accepted};
 ghost use Rattle.file_access.specs.Holding.{Rose, SameFiles};
-ghost use Rattle.operating.specs.Answers.{AnswersKept, LastUnkept};
-ghost use Rattle.run_commands.specs.declared.job.Job.{Job as AnyJob};
-ghost use Rattle.run_commands.specs.declared.refusal.OperateRefusal.TheVariants.{Handed};
-ghost use Rattle.run_commands.specs.Operating.{IsNoBeginning, IsWith, OperationBroke, OperationFails};
-ghost use Rattle.run_commands.specs.Operating.{IsOfRun, OperationRefused, SameResult};
-ghost use Rattle.run_commands.specs.Parts.{SavedAll, SavedSome};
-ghost use Rattle.run_commands.specs.Reports.{HasRun, IsRefused, IsTold};
-ghost use Rattle.run_commands.specs.Sessions.{IsOfRunOnly, code_run, refusal_in, tables_left};
+ghost use Rattle.run_commands.specs.Parts.{IsOfCode, IsOfRule, IsOfTables, SavedAll, SavedSome, Stopped, CodeStopped};
+ghost use Rattle.run_commands.specs.Parts.{CodeRefused};
+ghost use Rattle.run_commands.specs.Reports.{HasRun, CodeRan, IsRefused, IsTested, IsTold, IsSavedRun, RefusedBefore};
+ghost use Rattle.run_commands.specs.Reports.{SavingStopped};
 ghost use Rattle.shape.specs.Whole.{is_shape};
 
-use crate::completing::{CompletedRun, NoBaseline, complete_run};
 use crate::ending::{Ended, ended_of};
 use crate::job::Job;
-use crate::refusal::{OperateRefusal, RunRefusal};
-use crate::session::{Conversation, EndedRun, GivenLines, Session};
+use crate::machines::{AcceptedRun, run_accepted, run_any};
+use crate::refusal::RunRefusal;
 use code_items::laws::legal_codes;
 use file_access::Files;
-use line_journal::Journal;
-use ndx_tree::NdxTree;
-use operating::{Operator, Unwatched, Watcher, can_go_on};
+use file_commands::{Refusal, read_code};
+use legal_code::LegalCode;
+use operating::{Unwatched, Watcher};
+use run_laws::laws::new_stores_fit;
 use shape::Shape;
 use std::alloc::Global;
-use table_files::save;
-use work_area::Store;
+use table_files::{load, save};
+use xverify::{Verified, VerifyError, verify};
 
 /// What a run reports: the bytes for printing, none where there was no run, and how it ended or why it didn't, or why
 /// its tables aren't all saved.
@@ -36,110 +33,157 @@ pub struct Report {
     pub result: Result<Ended, RunRefusal>,
 }
 
-/// What a conversation reports: the bytes for printing, none where there was no run, and how the run ended, or why it
-/// didn't, or why its tables aren't all saved.
-#[derive(Drop)]
-pub struct OperationReport {
-    pub rows: Vec<u8>,
-    pub result: Result<Ended, OperateRefusal>,
-}
-
-/// Saves the tables that a run left, stamped with the job's day, unless the run was a test.
-fn save_tables<F: Files>(
-    alloc: Global,
-    files: &mut F,
-    shape: &Shape,
-    tables: &Store<NdxTree>,
-    job: &Job<'_>,
-) -> Result<(), RunRefusal>
-    requires legal { is_shape shape.now ≡ true }
-    requires count { length tables.now.tables ≡ length shape.now.tables }
-    ensures saved { OnOk result (MatchBool job.now.checked (SameFiles (F.holds files.old) (F.holds files.new))
-        (SavedAll (F.holds files.old) (F.holds files.new) job.now shape.now tables.now)) }
-    ensures stopped { IfErr result (SavedSome (F.holds files.old) (F.holds files.new)
-        (Rose (F.failed files.old) (F.failed files.new)) job.now shape.now tables.now) }
-    ensures judged { OnErr result (job.now.checked ≡ false) }
-    ensures counted { F.failed files.old ≤ F.failed files.new }
+/// Why the code's file isn't read, without its name.
+pub(crate) fn of_code(refusal: Refusal<'_>) -> RunRefusal
+    ensures { IsOfCode refusal.entry result }
 {
-    if job.checked {
-        return Ok(());
+    match refusal {
+        Refusal::Refused { fault, .. } => RunRefusal::File(fault),
+        Refusal::Disk { .. } => RunRefusal::Disk,
+        Refusal::Memory => RunRefusal::Memory,
     }
-    Ok(save(alloc, files, shape, tables, job.day.stamp())?)
 }
 
-/// Saves the tables of a run that came to its end, and reports it.
-fn save_run<F: Files>(
+/// The accepted code, or why it isn't.
+pub(crate) fn accept(alloc: Global, code: LegalCode) -> Result<Verified, RunRefusal>
+    ensures ok { IfOk result (λ verified. verified ≡ code) }
+    ensures accepted { IfOk result (λ _. Accepted code) }
+    ensures refused { IfErr result (IsOfRule code) }
+{
+    match verify(alloc, code) {
+        Ok(verified) => Ok(verified),
+        Err(VerifyError::Refused(refused)) => Err(RunRefusal::Rule(refused)),
+        Err(VerifyError::NoMemory) => Err(RunRefusal::Memory),
+    }
+}
+
+/// Runs a code on the checking machine, over the tables that it declares.
+fn test_run<F: Files, W: Watcher>(
     alloc: Global,
     files: &mut F,
-    done: CompletedRun<()>,
+    code: &LegalCode,
     job: &Job<'_>,
-) -> OperationReport
-    requires fits { length (tables_left done.run.state).tables ≡ length (code_run done.code).declared.shape.tables }
-    ensures rows { result.rows.items ≡ done.run.rows.items }
-    ensures told { IfOk result.result (IsTold (code_run done.code).declared.shape done.run.outcome) }
-    ensures saved { OnOk result.result (MatchBool job.now.checked (SameFiles (F.holds files.old) (F.holds files.new))
-        (SavedAll (F.holds files.old) (F.holds files.new) job.now (code_run done.code).declared.shape
-        (tables_left done.run.state))) }
-    ensures stopped { IfErr result.result (IsOfRun (SavedSome (F.holds files.old) (F.holds files.new)
-        (Rose (F.failed files.old) (F.failed files.new)) job.now (code_run done.code).declared.shape
-        (tables_left done.run.state))) }
-    ensures judged { OnErr result.result (job.now.checked ≡ false) }
+    watcher: &mut W,
+) -> Result<Report, RunRefusal>
+    ensures done { IfOk result (λ report. IfOk report.result
+        (λ ended. IsTested (F.holds files.old) job.now code.now ended report.rows.items)) }
+    ensures whole { IfOk result (λ report. IsOk report.result) }
+    ensures refused { IfErr result (IsOfTables (F.holds files.old) job.now code.now
+        (Rose (F.failed files.old) (F.failed files.new))) }
+    ensures kept { SameFiles (F.holds files.old) (F.holds files.new) }
     ensures counted { F.failed files.old ≤ F.failed files.new }
 {
     legal_codes();
-    let CompletedRun { code, run, .. } = done;
-    let EndedRun {
-        rows,
-        outcome,
-        state,
-    } = run;
+    new_stores_fit();
     let shape = &code.code().declared.shape;
-    let ended = ended_of(outcome, shape);
-    let result = match save_tables(alloc, files, shape, state.tables(), job) {
-        Ok(()) => Ok(ended),
-        Err(refusal) => Err(OperateRefusal::Run(refusal)),
-    };
-    OperationReport { rows, result }
+    let store = load(alloc, files, shape, job.limit.records())?;
+    let run = run_any(alloc, code, store, job, watcher)?.alone();
+    Ok(Report {
+        rows: run.rows,
+        result: Ok(ended_of(run.outcome, shape)),
+    })
 }
 
-/// Runs the code in a file, its lines given by a session, and saves the tables, unless the run is a test.
-fn run_session<F: Files, J, O, S: Session<J, O>>(
+/// Saves the tables of a run, and reports it.
+pub(crate) fn save_run<F: Files>(
     alloc: Global,
     files: &mut F,
+    shape: &Shape,
+    done: AcceptedRun,
     job: &Job<'_>,
-    session: &S,
-    journal: &mut J,
-    operator: &mut O,
-) -> OperationReport
-    requires may_begin { S.may_begin session.now job.now journal.old }
-    ensures run { IfOk result.result (λ ended. (whole : AnyJob) → IsWith job.now (S.lines job.now journal.new) whole
-        → HasRun (F.holds files.old) (F.holds files.new) whole ended result.rows.items) }
-    ensures refused { IfErr result.result
-        (λ refusal. (whole : AnyJob) → IsWith job.now (S.lines job.now journal.new) whole
-        → OperationRefused (F.holds files.old) (F.holds files.new) whole
-        (Rose (F.failed files.old) (F.failed files.new)) refusal result.rows.items) }
-    ensures begun { result.result ≡ Err Handed → ⊥ }
-    ensures leaves { S.leaves session.now journal.old operator.old journal.new operator.new
-        (refusal_in result.result) }
+) -> Report
+    requires legal { is_shape shape.now ≡ true }
+    requires count { length done.banks.env.store.tables ≡ length shape.now.tables }
+    ensures rows { result.rows.items ≡ done.run.rows.items }
+    ensures told { IfOk result.result (IsTold shape.now done.run.outcome) }
+    ensures saved { IfOk result.result
+        (λ _. SavedAll (F.holds files.old) (F.holds files.new) job.now shape.now done.banks.env.store) }
+    ensures stopped { IfErr result.result
+        (SavedSome (F.holds files.old) (F.holds files.new)
+        (Rose (F.failed files.old) (F.failed files.new)) job.now shape.now done.banks.env.store) }
+    ensures counted { F.failed files.old ≤ F.failed files.new }
 {
-    match complete_run(alloc, files, job, &NoBaseline, session, journal, operator) {
-        Ok(done) => save_run(alloc, files, done, job),
-        Err(refusal) => OperationReport {
-            rows: Vec::new(alloc),
-            result: Err(refusal),
-        },
+    let ended = ended_of(done.run.outcome, shape);
+    let saved = save(alloc, files, shape, done.banks.store(), job.day.stamp());
+    let result = match saved {
+        Ok(()) => Ok(ended),
+        Err(refusal) => Err(RunRefusal::Tables(refusal)),
+    };
+    Report {
+        rows: done.run.rows,
+        result,
     }
 }
 
-/// A result that only the run refuses.
-pub(crate) fn of_run<A>(given: Result<A, OperateRefusal>) -> Result<A, RunRefusal>
-    requires { IsOfRunOnly (refusal_in given) }
-    ensures { SameResult result given }
+/// Runs an accepted code on the machine without tags, over the tables that it declares, and saves them.
+fn full_run<F: Files, W: Watcher>(
+    alloc: Global,
+    files: &mut F,
+    verified: &Verified,
+    job: &Job<'_>,
+    watcher: &mut W,
+) -> Result<Report, RunRefusal>
+    ensures done { IfOk result (λ report. IfOk report.result
+        (λ ended. IsSavedRun (F.holds files.old) (F.holds files.new) job.now verified.now ended report.rows.items)) }
+    ensures stopped { IfOk result (λ report. IfErr report.result
+        (Stopped (F.holds files.old) (F.holds files.new)
+        (Rose (F.failed files.old) (F.failed files.new)) job.now verified.now report.rows.items)) }
+    ensures refused { IfErr result (IsOfTables (F.holds files.old) job.now verified.now
+        (Rose (F.failed files.old) (F.failed files.new))) }
+    ensures kept { OnErr result (SameFiles (F.holds files.old) (F.holds files.new)) }
+    ensures counted { F.failed files.old ≤ F.failed files.new }
 {
-    match given {
-        Ok(done) => Ok(done),
-        Err(OperateRefusal::Run(refusal)) => Err(refusal),
-        Err(OperateRefusal::Broke(_) | OperateRefusal::Handed) => unreachable!(),
+    legal_codes();
+    new_stores_fit();
+    let shape = &verified.code().declared.shape;
+    let store = load(alloc, files, shape, job.limit.records())?;
+    let done = run_accepted(alloc, verified, store, job, watcher)?;
+    Ok(save_run(alloc, files, shape, done, job))
+}
+
+/// Runs a code as the job says.
+fn run_code<F: Files, W: Watcher>(
+    alloc: Global,
+    files: &mut F,
+    code: LegalCode,
+    job: &Job<'_>,
+    watcher: &mut W,
+) -> Result<Report, RunRefusal>
+    ensures done { IfOk result (λ report. IfOk report.result
+        (λ ended. CodeRan (F.holds files.old) (F.holds files.new) job.now ended report.rows.items code)) }
+    ensures stopped { IfOk result (λ report. IfErr report.result
+        (CodeStopped (F.holds files.old) (F.holds files.new)
+        (Rose (F.failed files.old) (F.failed files.new)) job.now code report.rows.items)) }
+    ensures refused { IfErr result (CodeRefused (F.holds files.old) job.now code
+        (Rose (F.failed files.old) (F.failed files.new))) }
+    ensures kept { OnErr result (SameFiles (F.holds files.old) (F.holds files.new)) }
+    ensures counted { F.failed files.old ≤ F.failed files.new }
+{
+    if job.checked {
+        return test_run(alloc, files, &code, job, watcher);
+    }
+    let verified = accept(alloc, code)?;
+    full_run(alloc, files, &verified, job, watcher)
+}
+
+fn report_of<F: Files, W: Watcher>(
+    alloc: Global,
+    files: &mut F,
+    job: &Job<'_>,
+    watcher: &mut W,
+) -> Result<Report, RunRefusal>
+    ensures done { IfOk result (λ report. IfOk report.result
+        (λ ended. HasRun (F.holds files.old) (F.holds files.new) job.now ended report.rows.items)) }
+    ensures stopped { IfOk result (λ report. IfErr report.result
+        (λ refusal. SavingStopped (F.holds files.old) (F.holds files.new) job.now
+        (Rose (F.failed files.old) (F.failed files.new)) refusal report.rows.items)) }
+    ensures refused { IfErr result (RefusedBefore (F.holds files.old) job.now
+        (Rose (F.failed files.old) (F.failed files.new))) }
+    ensures kept { OnErr result (SameFiles (F.holds files.old) (F.holds files.new)) }
+{
+    match read_code(alloc, files, job.name) {
+        Ok(code) => run_code(alloc, files, code, job, watcher),
+        Err(refusal) => Err(of_code(refusal)),
     }
 }
 
@@ -157,10 +201,12 @@ pub fn run_files_watched<F: Files, W: Watcher>(
         (λ refusal. IsRefused (F.holds files.old) (F.holds files.new) job.now
         (Rose (F.failed files.old) (F.failed files.new)) refusal result.rows.items) }
 {
-    let report = run_session(alloc, files, job, &GivenLines, watcher, &mut ());
-    Report {
-        rows: report.rows,
-        result: of_run(report.result),
+    match report_of(alloc, files, job, watcher) {
+        Ok(report) => report,
+        Err(refusal) => Report {
+            rows: Vec::new(alloc),
+            result: Err(refusal),
+        },
     }
 }
 
@@ -176,52 +222,4 @@ pub fn run_files<F: Files>(alloc: Global, files: &mut F, job: &Job<'_>) -> Repor
         (Rose (F.failed files.old) (F.failed files.new)) refusal result.rows.items) }
 {
     run_files_watched(alloc, files, job, &mut Unwatched)
-}
-
-/// Runs the code in a file, if it is accepted, over the tables and indexes that it declares, while an operator types
-/// its lines. The tables are saved at each of the run's ends. The run begins with the lines that the journal holds,
-/// which are the job's input, and goes on with those that the operator answers. Each of these is kept in the journal
-/// before the run sees it. Behind the end of the input each further line is empty. What is printed and saved is what
-/// `run_files` prints and saves for the same job with what the journal holds then as its input. Where the operator or
-/// the journal fails, or a line isn't one, nothing is printed or saved. `Broken::Journal` is answered only where the
-/// journal failed and counted that, and `Broken::Operator` only where the operator failed, and not for want of memory.
-/// All lines together have at most `most` bytes, each with its end: where a line would pass that, the end of the input
-/// alone is left to answer.
-pub fn operate_files<F: Files, J: Journal, O: Operator>(
-    alloc: Global,
-    files: &mut F,
-    job: &Job<'_>,
-    most: usize,
-    journal: &mut J,
-    operator: &mut O,
-) -> OperationReport
-    requires untested { job.now.checked ≡ false }
-    requires held { J.holds journal.old ≡ job.now.input.now }
-    ensures run { IfOk result.result (λ ended. (whole : AnyJob) → IsWith job.now (J.holds journal.new) whole
-        → HasRun (F.holds files.old) (F.holds files.new) whole ended result.rows.items) }
-    ensures refused { IfErr result.result
-        (λ refusal. (whole : AnyJob) → IsWith job.now (J.holds journal.new) whole
-        → OperationRefused (F.holds files.old) (F.holds files.new) whole
-        (Rose (F.failed files.old) (F.failed files.new)) refusal result.rows.items) }
-    ensures handed { result.result ≡ Err Handed → IsNoBeginning job.now.input.now most }
-    ensures few { OnOk result.result (length (J.holds journal.new) ≤ most) }
-    ensures still { length (J.holds journal.old) ≤ most → length (J.holds journal.new) ≤ most }
-
-    // What the journal holds then is what it held before, with the lines that were answered behind it, and no more.
-    // Where no run is saved, the last line that was answered may be missing.
-    ensures answered { OnOk result.result (AnswersKept (O.answered operator.old) (O.answered operator.new)
-        (J.holds journal.old) (J.holds journal.new)) }
-    ensures unkept { OnErr result.result (LastUnkept (O.answered operator.old) (O.answered operator.new)
-        (J.holds journal.old) (J.holds journal.new)) }
-    ensures unfailed { OnOk result.result (J.failed journal.new ≡ J.failed journal.old) }
-    ensures broke { IfErr result.result (OperationBroke (J.failed journal.old) (J.failed journal.new)) }
-    ensures cause { OperationFails result.result (O.failure operator.old) (O.failure operator.new) }
-{
-    if !can_go_on(job.input, most) {
-        return OperationReport {
-            rows: Vec::new(alloc),
-            result: Err(OperateRefusal::Handed),
-        };
-    }
-    run_session(alloc, files, job, &Conversation { most }, journal, operator)
 }

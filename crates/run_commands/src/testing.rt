@@ -44,7 +44,7 @@ fn test_part(
 }
 
 /// Runs a code, accepted or not, as `tagged_machine::run_checked` does, in parts, as
-/// `operating::resume_in_parts` says. The run ends as it does in one part, at the same cost.
+/// `operating::run_in_parts` says. The run ends as it does in one part, at the same cost.
 pub(crate) fn run_checked_in_parts<W: Watcher>(
     alloc: Global,
     code: &LegalCode,

@@ -1,10 +1,13 @@
-use Rattle.run_commands.proofs.Results.{err_back, itself, ok_back}
+use Rattle.run_commands.proofs.Rehearsed.{rehearsed}
+use Rattle.run_commands.proofs.Reported.{refused}
+use Rattle.file_access.proofs.Holding.{rose_later}
 use Rattle.run_commands.proofs.rehearsing.rehearse_files_watched.Goals as goal
 
-pub returns-clause-done : goal.returns-clause-done
-returns-clause-done g c = ok_back _ _ (λ told h. h c.args.job.now (itself c.args.job.now)) c.of_run.result
-    c.rehearse_session.result c.of_run.ensures c.rehearse_session.ensures.done
+pub returns-in-Ok-clause-done : goal.returns-in-Ok-clause-done
+returns-in-Ok-clause-done g c =
+    rehearsed _ _ c.in-Ok.ensures.kept _ _ c.in-Ok.ensures.found _ c.rehearse_code.ensures.done
 
-pub returns-clause-refused : goal.returns-clause-refused
-returns-clause-refused g c = err_back _ _ (λ refusal h. h) c.of_run.result c.rehearse_session.result
-    c.of_run.ensures c.rehearse_session.ensures.refused
+pub returns-in-Ok-clause-refused : goal.returns-in-Ok-clause-refused
+returns-in-Ok-clause-refused g c = refused _ _ c.in-Ok.ensures.kept _ _
+    (rose_later _ _ _ c.in-Ok.ensures.counted c.rehearse_code.ensures.counted)
+    c.args.job.now _ c.in-Ok.ensures.found _ c.rehearse_code.ensures.refused
