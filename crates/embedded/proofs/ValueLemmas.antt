@@ -88,7 +88,7 @@ pub on_top : LeavesValues → LeadsToOne → (code : Code) (e : Tree) (count : �
 on_top leaves one code e count store today outcome v legal accepted b fits ran is =
     let w = opening code store [] today in
     let left = leaves code (no_names code.declared.shape) w e b.kind b.block legal accepted fits
-        (stands_alone code store today b.slots) b.written b.there in
+    (stands_alone code store today b.slots) b.written b.there in
     let there = one code w _ v (length b.block) outcome left.0
-        (subst (λ n. Ran code w n outcome v) (b.count_is ∙ sym left.1) ran) is in
+    (subst (λ n. Ran code w n outcome v) (b.count_is ∙ sym left.1) ran) is in
     ap (λ (u : World). u.values.stack) there ∙ ap (λ s. value_in s e ∷ []) (seen code store today)
