@@ -125,7 +125,7 @@ pub on_top : LeavesValues → LeadsToOne → (code : Code) (e : Tree) (count : �
 on_top leaves one code e count today v legal accepted b r =
     let w = opening code r.store [] today in
     let left = leaves code (no_names code.declared.shape) w e b.kind b.block legal accepted r.fits
-        (stands_alone code r.store today b.slots) b.written b.there in
+    (stands_alone code r.store today b.slots) b.written b.there in
     let there = one code w _ v (length b.block) r.outcome left.0
-        (subst (λ n. Ran code w n r.outcome v) (b.count_is ∙ sym left.1) r.ran) r.end_is in
+    (subst (λ n. Ran code w n r.outcome v) (b.count_is ∙ sym left.1) r.ran) r.end_is in
     ap (λ (u : World). u.values.stack) there ∙ ap (λ s. value_in s e ∷ []) (seen code r.store today)
