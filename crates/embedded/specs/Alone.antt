@@ -12,6 +12,13 @@ use Rattle.tablereef.specs.PrgParser.Tree.{Tree}
 use Rattle.tablereef.specs.PrgCompile.Readings.{Scoped}
 use Rattle.tablereef.specs.PrgCompile.Written.{IsWrittenExpr}
 use Rattle.tablereef.specs.ExprLaws.Meaning.{Sight, nothing}
+use Rattle.tablereef.specs.FitLaws.Fits.{IsFitting}
+use Rattle.tablereef.specs.RunLaws.End.TheVariants.{Spent}
+use Rattle.tablereef.specs.RunLaws.Opening.{opening}
+use Rattle.tablereef.specs.RunLaws.Outcome.{Outcome}
+use Rattle.tablereef.specs.RunLaws.Run.{Ran}
+use Rattle.tablereef.specs.RunLaws.World.{World}
+use Rattle.tablereef.specs.WorkArea.Areas.{StoreState}
 
 -- what it sees on a day: all settings are off, and no name stands for anything
 abbrev pub seen_alone : Option DayParts → Sight
@@ -43,3 +50,12 @@ pub record BeginsWith (e : Tree) (count : ℕ) (code : Code) : Type 0 where
   pub written : IsWrittenExpr (no_names code.declared.shape) e kind code.declared.constants block
   pub there : take (length block) code.instructions ≡ block
   pub count_is : count ≡ length block
+
+-- a run of a code from its beginning, over some tables that fit and without lines, that came to this world and spent its
+-- budget there
+pub record SpendsAt (code : Code) (today : Option DayParts) (budget : ℕ) (v : World) : Type 0 where
+  pub store : StoreState
+  pub fits : IsFitting code (opening code store [] today)
+  pub outcome : Outcome
+  pub ran : Ran code (opening code store [] today) budget outcome v
+  pub end_is : outcome.end ≡ Spent

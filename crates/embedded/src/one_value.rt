@@ -1,15 +1,9 @@
 //! The value of an expression: it is compiled, the checking machine runs its code, and its value is on top then.
 
 ghost use Rattle.std.specs.Prelude.{◌≡◌, ◌∷◌, [], ◌<◌, IfOk, IfSome, length, take};
-ghost use Rattle.embedded.specs.Alone.{seen_alone, no_knowledge, BeginsWith};
+ghost use Rattle.embedded.specs.Alone.{seen_alone, no_knowledge, BeginsWith, SpendsAt};
 ghost use Rattle.tablereef.specs.ExprLaws.Meaning.{value_in};
-ghost use Rattle.tablereef.specs.FitLaws.Fits.{IsFitting};
-ghost use Rattle.tablereef.specs.RunLaws.Opening.{opening};
-ghost use Rattle.tablereef.specs.RunLaws.Run.{Ran};
-ghost use Rattle.tablereef.specs.WorkArea.Areas.{StoreState};
 ghost use Rattle.tablereef.specs.PrgParser.Tree.{tree_of};
-ghost use Rattle.tablereef.specs.RunLaws.End.TheVariants.{Spent};
-ghost use Rattle.tablereef.specs.RunLaws.Outcome.{Outcome as AnyOutcome};
 
 use std::alloc::{AllocError, Global};
 use tablereef::calendar::Day;
@@ -158,9 +152,7 @@ fn run_spent<F: Files>(
     day: Day,
     budget: u64,
 ) -> Option<World<NdxTree>>
-    ensures { IfSome result (λ world. (store : StoreState) × (outcome : AnyOutcome)
-        × (IsFitting verified.now (opening verified.now store [] day)
-        × (Ran verified.now (opening verified.now store [] day) budget outcome world × (outcome.end ≡ Spent)))) }
+    ensures { IfSome result (SpendsAt verified.now day budget) }
 {
     legal_codes();
     new_stores_fit();

@@ -6,12 +6,11 @@ use Rattle.embedded.proofs.one_value.value_of.Goals as goal
 
 pub returns : goal.returns
 returns g c =
-    let code = c.code.ensures in
-    let ran = c.in_some-world.ensures in
+    let code = c.code-code.ensures in
     let law = c.expressions_leave_their_values.ensures in
     on_top (λ code s w e kind block legal accepted fits at written there. (
       law.world code s w e kind block legal accepted fits at written there,
       law.steps code s w e kind block legal accepted fits at written there,
-    )) c.spent_budgets_lead_to_one_world.ensures _ _
-    _ ran.0 _ ran.1.0 _ (subst IsCode code.same code.legal) (subst Accepted code.same code.accepted)
-    c.in_some-compiled.ensures ran.1.1.0 ran.1.1.1.0 ran.1.1.1.1
+    )) c.spent_budgets_lead_to_one_world.ensures
+    _ _ _ _ _ (subst IsCode code.same code.legal) (subst Accepted code.same code.accepted)
+    c.in_ok-compiled.ensures c.in_ok-world.ensures
