@@ -10,4 +10,4 @@ mod ways;
 pub use compiling::{areas_at_fault, compile, find_faults};
 pub use met_areas::{HeldTable, MetAreas};
 pub use prg_code::{CompileFault, CompileFaultKind, CompileRefusal, Names, Pool, Variable};
-pub use prg_values::{Scope, compile_expr, kind_of};
+pub use prg_values::{Scope, compile_expr};
